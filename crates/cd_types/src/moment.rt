@@ -1,0 +1,45 @@
+ghost use Rattle.std.specs.Prelude.{◌≡◌, ◌<◌, ◌^◌, ◌↔◌, IsSome, IfSome};
+ghost use Rattle.cd_types.specs.Moment.{IsMoment};
+
+use std::marker::Model;
+
+/// A moment, in seconds. Contracts see it as that number, from 0 to 249,999,999,999.
+#[derive(Clone, Copy, Debug, PartialEq, Eq, PartialOrd, Ord)]
+pub struct Moment {
+    seconds: u64,
+}
+
+impl Model for Moment {
+    ghost use Rattle.std.specs.Prelude.{ℕ};
+    ghost use Rattle.cd_types.specs.Moment.{IsMoment};
+
+    ghost Value = { ℕ };
+
+    ghost view = { λ moment. moment.seconds };
+
+    ghost invariant = { λ moment. IsMoment moment.seconds };
+
+    ghost inverse = { λ seconds. record { seconds = seconds } };
+}
+
+impl Moment {
+    /// The moment of that many seconds; `None` exactly where they are no moment.
+    pub fn new(seconds: u64) -> Option<Self>
+        ensures form { IsSome result ↔ IsMoment seconds }
+        ensures value { IfSome result (λ moment. moment ≡ seconds) }
+    {
+        if seconds < 250_000_000_000 {
+            Some(Moment { seconds })
+        } else {
+            None
+        }
+    }
+
+    /// Its number of seconds.
+    pub fn seconds(self) -> u64
+        ensures value { result ≡ self }
+        ensures form { IsMoment self }
+    {
+        self.seconds
+    }
+}
