@@ -1,1 +1,4 @@
+pub mod Format
 pub mod Moment
+pub mod Number
+pub mod NumberLaw
