@@ -63,17 +63,17 @@ found_is false x y e = (refl, cc)
 pub number_law : (n : ℕ) → IsFormat (IsNumber n) (big_bytes n) (number_in n)
 number_law n = record {
   again = λ x rest fits.
-    let long : ltb (length (big_bytes n x ++ rest)) n ≡ false = le-ltb _ _ (omega (arith, length-append (big_bytes n x) rest, length-bytes_high_first n x)) in
-    rw (long, big_number-reads_back n x rest fits, drop_at (big_bytes n x) rest n (length-bytes_high_first n x)) refl;
+      let long : ltb (length (big_bytes n x ++ rest)) n ≡ false = le-ltb _ _ (omega (arith, length-append (big_bytes n x) rest, length-bytes_high_first n x)) in
+      rw (long, big_number-reads_back n x rest fits, drop_at (big_bytes n x) rest n (length-bytes_high_first n x)) refl;
   only = λ bytes x rest fit e.
-    let found = found_is (ltb (length bytes) n) (big_number n bytes, drop n bytes) (x, rest) e in
-    let long : n ≤ length bytes = ltb-false _ _ found.0 in
-    let number : big_number n bytes ≡ x = ap (λ (p : ℕ × List ℕ). p.0) found.1 in
-    let after : drop n bytes ≡ rest = ap (λ (p : ℕ × List ℕ). p.1) found.1 in
-    let below : x < 256 ^ n = rw (← number) (big_from-lt 0 n bytes fit) in
-    let back : big_number n (big_bytes n x) ≡ x = ap (big_number n) (sym (append-nil (big_bytes n x))) ∙ big_number-reads_back n x [] below in
-    let front : big_bytes n x ≡ take n bytes =
-    one_spelling n (big_bytes n x) (take n bytes) (length-bytes_high_first n x) (omega (arith, length-take n bytes)) (bytes_fit n x) (IsBytes-take n bytes fit)
+      let found = found_is (ltb (length bytes) n) (big_number n bytes, drop n bytes) (x, rest) e in
+      let long : n ≤ length bytes = ltb-false _ _ found.0 in
+      let number : big_number n bytes ≡ x = ap (λ (p : ℕ × List ℕ). p.0) found.1 in
+      let after : drop n bytes ≡ rest = ap (λ (p : ℕ × List ℕ). p.1) found.1 in
+      let below : x < 256 ^ n = rw (← number) (big_from-lt 0 n bytes fit) in
+      let back : big_number n (big_bytes n x) ≡ x = ap (big_number n) (sym (append-nil (big_bytes n x))) ∙ big_number-reads_back n x [] below in
+      let front : big_bytes n x ≡ take n bytes =
+      one_spelling n (big_bytes n x) (take n bytes) (length-bytes_high_first n x) (omega (arith, length-take n bytes)) (bytes_fit n x) (IsBytes-take n bytes fit)
       (back ∙ sym number ∙ sym (big_from-take 0 n n bytes (omega arith))) in
-    (sym (take-append-drop n bytes) ∙ (λ i. sym front i ++ after i), below);
+      (sym (take-append-drop n bytes) ∙ (λ i. sym front i ++ after i), below);
 }

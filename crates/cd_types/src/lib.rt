@@ -4,8 +4,11 @@
 mod field;
 mod memory;
 mod moment;
+mod node_name;
 mod number;
+mod short;
 
 pub use field::Field;
 pub use memory::NoMemory;
 pub use moment::Moment;
+pub use node_name::NodeName;
