@@ -2,9 +2,6 @@
 ghost use Rattle.std.specs.Prelude.{◌≡◌, ◌≤◌, ◌<◌, ◌++◌, ◌∷◌, [], length, IfOk, OnErr, vec_len};
 ghost use Rattle.cd_cli.specs.Input.{is_blank, open_after, spot_after, is_open, stays_between};
 
-
-
-
 /// The most bytes that a command may have, its `;` included.
 pub(crate) const MAX_COMMAND: usize = 70_000;
 
@@ -27,7 +24,7 @@ pub enum Spot {
     Star,
 }
 
-fn is_blank(byte: u8) -> bool
+pub(crate) fn is_blank(byte: u8) -> bool
     ensures { result ≡ is_blank byte }
 {
     matches!(byte, b' ' | b'\t' | b'\n' | b'\r')

@@ -3,3 +3,4 @@
 
 mod input;
 mod scanner;
+mod words;

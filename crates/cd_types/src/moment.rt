@@ -1,4 +1,4 @@
-ghost use Rattle.std.specs.Prelude.{◌≡◌, ◌<◌, ◌^◌, ◌↔◌, IsSome, IfSome};
+ghost use Rattle.std.specs.Prelude.{◌≡◌, ◌↔◌, min, IsSome, IfSome};
 ghost use Rattle.cd_types.specs.Moment.{IsMoment};
 
 use std::marker::Model;
@@ -32,6 +32,15 @@ impl Moment {
             Some(Moment { seconds })
         } else {
             None
+        }
+    }
+
+    /// That moment, or the last one where it lies behind that.
+    pub fn latest(seconds: u64) -> Self
+        ensures { result ≡ min seconds 249999999999 }
+    {
+        Moment {
+            seconds: seconds.min(249_999_999_999),
         }
     }
 
