@@ -1,3 +1,5 @@
 pub mod Input
 pub mod Scanner
 pub mod Words
+pub mod Upto
+pub mod UptoLaw

@@ -1,5 +1,5 @@
 //! Words between blanks.
-ghost use Rattle.std.specs.Prelude.{◌≡◌, option_map, Option, not, position};
+ghost use Rattle.std.specs.Prelude.{◌≡◌, ◌≤◌, length, option_map, not, position};
 ghost use Rattle.cd_cli.specs.Input.{is_blank};
 ghost use Rattle.cd_cli.specs.Words.{first_place, unblanked, word_in, behind};
 
@@ -17,14 +17,18 @@ fn other_at(bytes: &[u8]) -> Option<usize>
     bytes.iter().position(|byte| !is_blank(*byte))
 }
 
+#[tactic(auto, using(crate::proofs::Places::place_is, crate::proofs::Places::place_within))]
 fn first_blank(bytes: &[u8]) -> usize
-    ensures { result ≡ first_place is_blank bytes.now }
+    ensures place { result ≡ first_place is_blank bytes.now }
+    ensures within { result ≤ length bytes.now }
 {
     blank_at(bytes).unwrap_or(bytes.len())
 }
 
+#[tactic(auto, using(crate::proofs::Places::place_is, crate::proofs::Places::place_within))]
 fn first_other(bytes: &[u8]) -> usize
-    ensures { result ≡ first_place (λ b. not (is_blank b)) bytes.now }
+    ensures place { result ≡ first_place (λ b. not (is_blank b)) bytes.now }
+    ensures within { result ≤ length bytes.now }
 {
     other_at(bytes).unwrap_or(bytes.len())
 }
