@@ -3,3 +3,4 @@ pub mod Scanner
 pub mod Words
 pub mod Upto
 pub mod UptoLaw
+pub mod Reply

@@ -2,5 +2,6 @@
 #![tactic(auto)]
 
 mod input;
+mod reply;
 mod scanner;
 mod words;
