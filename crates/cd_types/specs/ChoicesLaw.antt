@@ -1,5 +1,5 @@
 -- Fields of one byte are fields.
-use Rattle.std.proofs.Common.{◌≡◌, ℕ, ◌<◌, refl, arith}
+use Rattle.std.proofs.Common.{refl, arith}
 use Rattle.byteorder.specs.Endian.{big_bytes}
 use Rattle.cd_types.specs.Format.{IsFormat}
 use Rattle.cd_types.specs.Compound.{choice_in}

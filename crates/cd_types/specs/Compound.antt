@@ -1,5 +1,5 @@
 -- Fields that are made of others.
-use Rattle.std.specs.Prelude.{◌≡◌, ℕ, ◌++◌, List, [], ◌∷◌, Bool, true, false, Option, Some, None, if◌then◌else◌, slice_get}
+use Rattle.std.specs.Prelude.{ℕ, ◌++◌, List, [], ◌∷◌, Bool, true, false, Option, Some, None, if◌then◌else◌, slice_get}
 use Rattle.byteorder.specs.Endian.{big_bytes}
 use Rattle.cd_types.specs.Format.{◌>>=◌, found_as}
 use Rattle.cd_types.specs.Number.{number_in}
@@ -34,6 +34,14 @@ tested_in test field bytes = do
 abbrev pub choice_in : {A : Type 0} → List A → List ℕ → Option (A × List ℕ)
 choice_in values = seen_in (slice_get values) (number_in 1)
 
+-- no and yes, and their bytes
+abbrev pub flags : List Bool
+flags = false ∷ true ∷ []
+
+abbrev pub flag : Bool → ℕ
+flag false = 0
+flag true = 1
+
 -- a byte 0, or a byte 1 and the field
 abbrev pub optional_bytes : {A : Type 0} → (A → List ℕ) → Option A → List ℕ
 optional_bytes field None = big_bytes 1 0
@@ -41,9 +49,13 @@ optional_bytes field (Some x) = big_bytes 1 1 ++ field x
 
 abbrev pub optional_in : {A : Type 0} → (List ℕ → Option (A × List ℕ)) → List ℕ → Option (Option A × List ℕ)
 optional_in field bytes = do
-  there ← choice_in (false ∷ true ∷ []) bytes
+  there ← choice_in flags bytes
   if there.0 then found_as Some (field there.1) else Some (None, there.1)
 
 abbrev pub IsOptional : {A : Type 0} → (A → Type 0) → Option A → Type 0
 IsOptional Form None = Unit {0}
 IsOptional Form (Some x) = Form x
+
+-- fields one behind another, seen as a value that is made of them
+abbrev pub made_in : {A B : Type 0} → (A → B) → (List ℕ → Option (A × List ℕ)) → List ℕ → Option (B × List ℕ)
+made_in make = seen_in (λ x. Some (make x))

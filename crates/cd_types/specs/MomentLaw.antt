@@ -1,5 +1,5 @@
 -- A moment is a field.
-use Rattle.std.proofs.Common.{◌≡◌, ℕ, ◌^◌, ◌<◌, arith}
+use Rattle.std.proofs.Common.{ℕ, ◌<◌, length, arith}
 use Rattle.std.specs.Prelude.{IsTrue}
 use Rattle.std.proofs.lemmas.Bool.{ltb-true, lt-ltb}
 use Rattle.byteorder.specs.Endian.{big_bytes}
@@ -13,3 +13,6 @@ pub moment_law : IsFormat IsMoment (big_bytes 8) (ranged_in 8 is_moment)
 moment_law =
     form_law (λ n. IsTrue (is_moment n)) IsMoment (big_bytes 8) (ranged_in 8 is_moment) (λ n form. ltb-true _ _ form) (λ n form. lt-ltb _ _ form)
     (ranged_law 8 is_moment (λ n form. omega (arith, ltb-true n 250000000000 form)))
+
+pub moment_is_small : (n : ℕ) → IsMoment n → length (big_bytes 8 n) < 256
+moment_is_small n form = omega arith

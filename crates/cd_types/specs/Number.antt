@@ -1,6 +1,6 @@
 -- Numbers of a fixed width, the highest byte first.
-use Rattle.std.specs.Prelude.{◌≡◌, ℕ, ◌<◌, ◌^◌, List, length, drop, nat_lt, Option, Some, None, if◌then◌else◌}
-use Rattle.byteorder.specs.Endian.{big_bytes, big_number}
+use Rattle.std.specs.Prelude.{ℕ, ◌<◌, ◌^◌, List, length, drop, nat_lt, Option, Some, None, if◌then◌else◌}
+use Rattle.byteorder.specs.Endian.{big_number}
 
 -- a number of n bytes
 abbrev pub IsNumber : ℕ → ℕ → Type 0

@@ -1,5 +1,5 @@
 -- A process number is a field.
-use Rattle.std.proofs.Common.{◌≡◌, ℕ, ◌^◌, ◌<◌, ◌≤◌, ◌&&◌, leb, arith}
+use Rattle.std.proofs.Common.{ℕ, ◌≤◌, leb, arith}
 use Rattle.std.proofs.lemmas.Bool.{leb-true}
 use Rattle.byteorder.specs.Endian.{big_bytes}
 use Rattle.cd_types.specs.Format.{IsFormat}

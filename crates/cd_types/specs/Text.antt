@@ -1,5 +1,5 @@
 -- A text behind its length, which is a number of n bytes.
-use Rattle.std.specs.Prelude.{◌≡◌, ℕ, ◌<◌, ◌^◌, ◌++◌, List, length, take, drop, Bool, ◌&&◌, nat_le, IsTrue, Option, Some, None, if◌then◌else◌}
+use Rattle.std.specs.Prelude.{ℕ, ◌++◌, List, length, take, drop, Bool, ◌&&◌, nat_le, Option, Some, None, if◌then◌else◌}
 use Rattle.byteorder.specs.Endian.{big_bytes}
 use Rattle.cd_types.specs.Format.{◌>>=◌}
 use Rattle.cd_types.specs.Number.{number_in}

@@ -1,12 +1,11 @@
 -- The laws of a text behind its length, and of a number in its range.
-use Rattle.std.proofs.Common.{◌≡◌, ℕ, ◌+◌, ◌^◌, ◌<◌, ◌≤◌, Bool, true, false, cond, leb, ◌&&◌, List, [], ◌∷◌, ◌++◌, length, take, drop, Option, Some, None, refl, sym, ap, ◌∙◌, arith, append_assoc, length-append, length-take, take-append-drop}
+use Rattle.std.proofs.Common.{◌≡◌, ℕ, ◌^◌, ◌<◌, ◌≤◌, Bool, true, false, cond, leb, ◌&&◌, List, ◌++◌, length, take, drop, Option, Some, None, refl, sym, ap, ◌∙◌, arith, append_assoc, length-append, length-take, take-append-drop}
 use Rattle.std.specs.Prelude.{IsTrue}
 use Rattle.std.proofs.lemmas.Bool.{leb-true, le-leb}
-use Rattle.std.proofs.lemmas.List.{take_at, drop_at, get_or-drop}
+use Rattle.std.proofs.lemmas.List.{take_at, drop_at}
 use Rattle.byteorder.specs.Endian.{big_bytes}
-use Rattle.byteorder.specs.Numbers.{length-bytes_high_first}
-use Rattle.cd_types.specs.Format.{◌>>=◌, IsBytes, IsFormat}
-use Rattle.cd_types.specs.Number.{IsNumber, number_in}
+use Rattle.cd_types.specs.Format.{◌>>=◌, IsFormat}
+use Rattle.cd_types.specs.Number.{number_in}
 use Rattle.cd_types.specs.NumberLaw.{number_law}
 use Rattle.cd_types.specs.Text.{text_bytes, text_in, ranged_in}
 

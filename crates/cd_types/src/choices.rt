@@ -110,7 +110,7 @@ pub enum Relation {
 }
 
 /// The value whose place in `values` is the byte at the front, and the bytes after it.
-fn choice<'a, T: Copy>(values: &[T], bytes: &'a [u8]) -> Option<(T, &'a [u8])>
+pub(crate) fn choice<'a, T: Copy>(values: &[T], bytes: &'a [u8]) -> Option<(T, &'a [u8])>
     ensures { option_map (λ found. (found.0, found.1.now)) result ≡ choice_in values.now bytes.now }
 {
     let (place, rest) = u8::front(bytes)?;

@@ -1,4 +1,4 @@
-ghost use Rattle.std.specs.Prelude.{◌≡◌, ℕ, ◌+◌, ◌≤◌, ◌++◌, List, length, Option, option_map, vec_len, vec_capacity, IsOk, OnOk, OnErr};
+ghost use Rattle.std.specs.Prelude.{◌≡◌, ℕ, ◌+◌, ◌<◌, ◌≤◌, ◌++◌, List, length, Option, option_map, vec_len, vec_capacity, IsOk, OnOk, OnErr};
 ghost use Rattle.cd_types.specs.Format.{counted, IsFormat};
 
 use crate::NoMemory;
@@ -59,4 +59,10 @@ pub trait Field: Sized {
 
     /// What is spelled is found again, whatever follows it, and nothing else is found.
     ghost law: { IsFormat form spelled found_in };
+}
+
+/// A field that has few bytes, whatever its value.
+pub trait Small: Field {
+    /// Fewer than 256.
+    ghost small: { (x : Self) → Self.form x → length (Self.spelled x) < 256 };
 }

@@ -1,10 +1,10 @@
 ghost use Rattle.std.specs.Prelude.{◌≡◌, ◌↔◌, ⊤, min, IsSome, IfSome};
 ghost use Rattle.byteorder.specs.Endian.{big_bytes};
 ghost use Rattle.cd_types.specs.Moment.{is_moment, IsMoment};
-ghost use Rattle.cd_types.specs.MomentLaw.{moment_law};
+ghost use Rattle.cd_types.specs.MomentLaw.{moment_law, moment_is_small};
 ghost use Rattle.cd_types.specs.Text.{ranged_in};
 
-use crate::Field;
+use crate::{Field, Small};
 use std::marker::Model;
 
 /// A moment, in seconds. Contracts see it as that number, from 0 to 249,999,999,999.
@@ -81,4 +81,8 @@ impl Field for Moment {
     fn put(&self, into: &mut Vec<u8>) {
         self.seconds().put(into);
     }
+}
+
+impl Small for Moment {
+    ghost small = { moment_is_small };
 }

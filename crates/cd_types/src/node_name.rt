@@ -1,11 +1,11 @@
 ghost use Rattle.std.specs.Prelude.{◌≡◌, ⊤};
 ghost use Rattle.std.specs.List.{list_all};
 ghost use Rattle.cd_types.specs.NodeName.{is_node_byte, is_node_name, IsNodeName, node_name_of};
-ghost use Rattle.cd_types.specs.NodeNameLaw.{node_name_law};
+ghost use Rattle.cd_types.specs.NodeNameLaw.{node_name_law, node_name_is_small};
 ghost use Rattle.cd_types.specs.Text.{text_bytes, text_in};
 
-use crate::Field;
 use crate::short::Short;
+use crate::{Field, Small};
 use std::marker::Model;
 
 /// A node's name: 1 to 16 letters, digits and `. _ - $ # @`. Names are compared byte by byte.
@@ -103,4 +103,8 @@ impl Field for NodeName {
         (text.len() as u8).put(into);
         into.extend_from_slice(text).unwrap();
     }
+}
+
+impl Small for NodeName {
+    ghost small = { node_name_is_small };
 }
