@@ -4,3 +4,5 @@ pub mod Words
 pub mod Upto
 pub mod UptoLaw
 pub mod Reply
+pub mod Plain
+pub mod PlainSeen

@@ -2,6 +2,7 @@
 #![tactic(auto)]
 
 mod input;
+mod plain;
 mod reply;
 mod scanner;
 mod words;

@@ -1,4 +1,4 @@
-ghost use Rattle.std.specs.Prelude.{◌≡◌, ⊤, map};
+ghost use Rattle.std.specs.Prelude.{◌≡◌, ⊤, map, if◌then◌else◌, Some, None};
 ghost use Rattle.std.specs.Char.{to_ascii_uppercase};
 ghost use Rattle.std.specs.List.{list_all, list_any};
 ghost use Rattle.cd_types.specs.Label.{is_label_byte, begins_with_letter, is_reserved, is_label, IsLabel, label_of};
@@ -116,6 +116,18 @@ impl Label {
         } else {
             None
         }
+    }
+
+    /// The label that these bytes are in upper case; `None` exactly where they aren't one.
+    pub fn exact(bytes: &[u8]) -> Option<Self>
+        ensures { result ≡ (if is_label bytes.now then Some bytes.now else None) }
+    {
+        if !is_label(bytes) {
+            return None;
+        }
+        Some(Label {
+            text: Short::new(bytes),
+        })
     }
 
     /// Its bytes.
