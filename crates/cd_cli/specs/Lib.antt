@@ -6,3 +6,4 @@ pub mod UptoLaw
 pub mod Reply
 pub mod Plain
 pub mod PlainSeen
+pub mod Canonical

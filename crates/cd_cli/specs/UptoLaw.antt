@@ -7,12 +7,7 @@ use Rattle.std.proofs.lemmas.List.{take_at, drop_at}
 use Rattle.cd_types.specs.Format.{◌>>=◌, IsBytes, IsFormat}
 use Rattle.cd_types.specs.TextLaw.{bind_some, both_true, passed}
 use Rattle.cd_cli.specs.Words.{first_place, behind}
-use Rattle.cd_cli.specs.Upto.{upto_bytes, upto_in}
-
--- a test that was passed, on the way to something that was found
-chosen : {A : Type 0} (b : Bool) (found : Option A) (y : A) → cond b found None ≡ Some y → (b ≡ true) × (found ≡ Some y)
-chosen true found y e = (refl, e)
-chosen false found y e = absurd cc
+use Rattle.cd_cli.specs.Upto.{upto_bytes, parted_at, upto_in}
 
 some_same : {A : Type 0} (x y : A) → Some x ≡ Some y → x ≡ y
 some_same x y e = cc
@@ -54,19 +49,21 @@ pub upto_law : (first : ℕ) (more : List ℕ) (test : List ℕ → Bool) → ((
     → IsFormat (λ text. IsTrue (test text)) (upto_bytes first more) (upto_in first more test)
 upto_law first more test without = record {
   again = λ text rest form.
-    let joined : upto_bytes first more text ++ rest ≡ text ++ (first ∷ (more ++ rest)) = append_assoc text (first ∷ more) rest in
-    let len : first_place (λ b. eqb b first) (text ++ first ∷ (more ++ rest)) ≡ length text = first_place-text first text (more ++ rest) (without text form) in
-    let front : take (length text) (text ++ first ∷ (more ++ rest)) ≡ text = take_at text (first ∷ (more ++ rest)) (length text) refl in
-    let back : drop (length text) (text ++ first ∷ (more ++ rest)) ≡ (first ∷ more) ++ rest = drop_at text (first ∷ (more ++ rest)) (length text) refl in
-    ap (upto_in first more test) joined ∙ rw (len, front, form, back, behind_again (first ∷ more) rest) refl;
+      let joined : upto_bytes first more text ++ rest ≡ text ++ (first ∷ (more ++ rest)) = append_assoc text (first ∷ more) rest in
+      let len : first_place (λ b. eqb b first) (text ++ first ∷ (more ++ rest)) ≡ length text = first_place-text first text (more ++ rest) (without text form) in
+      let front : take (length text) (text ++ first ∷ (more ++ rest)) ≡ text = take_at text (first ∷ (more ++ rest)) (length text) refl in
+      let back : drop (length text) (text ++ first ∷ (more ++ rest)) ≡ (first ∷ more) ++ rest = drop_at text (first ∷ (more ++ rest)) (length text) refl in
+      ap (upto_in first more test) joined ∙ rw (len, front, back, behind_again (first ∷ more) rest, form) refl;
   only = λ bytes text rest fit e.
-    let len = first_place (λ b. eqb b first) bytes in
-    let passes = chosen (test (take len bytes)) (behind (first ∷ more) (drop len bytes) >>= λ r. Some (take len bytes, r)) (text, rest) e in
-    let found = bind_some (behind (first ∷ more) (drop len bytes)) (λ r. Some (take len bytes, r)) (text, rest) passes.1 in
-    let pair = some_same (take len bytes, found.0) (text, rest) found.2 in
-    let text_is : take len bytes ≡ text = ap (λ (p : List ℕ × List ℕ). p.0) pair in
-    let rest_is : found.0 ≡ rest = ap (λ (p : List ℕ × List ℕ). p.1) pair in
-    let back : drop len bytes ≡ (first ∷ more) ++ found.0 = behind_only (first ∷ more) (drop len bytes) found.0 found.1 in
-    let whole : bytes ≡ text ++ ((first ∷ more) ++ rest) = sym (take-append-drop len bytes) ∙ (λ i. text_is i ++ back i) ∙ ap (λ (r : List ℕ). text ++ ((first ∷ more) ++ r)) rest_is in
-    (whole ∙ sym (append_assoc text (first ∷ more) rest), rw text_is at passes.0);
+      let len = first_place (λ b. eqb b first) bytes in
+      let parts = bind_some (parted_at first more bytes) _ (text, rest) e in
+      let passes = passed (test parts.0.0) (parts.0.0, parts.0.1) (text, rest) parts.2 in
+      let found = bind_some (behind (first ∷ more) (drop len bytes)) (λ r. Some (take len bytes, r)) parts.0 parts.1 in
+      let pair = some_same (take len bytes, found.0) parts.0 found.2 in
+      let text_is : take len bytes ≡ text = ap (λ (p : List ℕ × List ℕ). p.0) pair ∙ ap (λ (p : List ℕ × List ℕ). p.0) passes.1 in
+      let rest_is : found.0 ≡ rest = ap (λ (p : List ℕ × List ℕ). p.1) pair ∙ ap (λ (p : List ℕ × List ℕ). p.1) passes.1 in
+      let back : drop len bytes ≡ (first ∷ more) ++ found.0 = behind_only (first ∷ more) (drop len bytes) found.0 found.1 in
+      let whole : bytes ≡ text ++ ((first ∷ more) ++ rest) = sym (take-append-drop len bytes) ∙ (λ i. text_is i ++ back i) ∙ ap (λ (r : List ℕ). text ++ ((first ∷ more) ++ r)) rest_is in
+      let text_same : parts.0.0 ≡ text = ap (λ (p : List ℕ × List ℕ). p.0) passes.1 in
+      (whole ∙ sym (append_assoc text (first ∷ more) rest), rw text_same at passes.0);
 }

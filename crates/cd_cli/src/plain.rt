@@ -1,15 +1,15 @@
 //! The commands in the form that is read today.
-ghost use Rattle.std.specs.Prelude.{◌≡◌, ◌∷◌, [], codes, option_map, position, length, ◌≤◌, ◌==◌, IsTrue};
+ghost use Rattle.std.specs.Prelude.{◌≡◌, ◌∷◌, [], codes, option_map, length, ◌==◌, IsTrue};
 ghost use Rattle.std.specs.Char.{is_ascii_digit};
 ghost use Rattle.std.specs.List.{list_all};
-ghost use Rattle.cd_cli.specs.Words.{first_place, unblanked};
+ghost use Rattle.cd_cli.specs.Words.{unblanked};
 ghost use Rattle.cd_cli.specs.Upto.{upto_in};
 ghost use Rattle.cd_types.specs.Label.{is_label, IsLabel};
 ghost use Rattle.cd_types.specs.NodeName.{is_node_name, IsNodeName};
 ghost use Rattle.cd_cli.specs.Plain.{is_plain_byte, is_plain_file, label_in, word_skipped, value_in, file_in, is_number, value_of, home_in, init_in, submit_in, command_in, command_of};
 ghost use Rattle.cd_cli.specs.PlainSeen.{seen_command};
 
-use crate::words::{behind, unblanked, word_in};
+use crate::words::{behind, parted_at, unblanked, word_in};
 use cd_types::{Label, NodeName, is_file_name};
 
 /// A Process of one step, a COPY to the other node, as a command tells it. Its file names lie in the command.
@@ -42,7 +42,7 @@ fn are_plain_bytes(name: &[u8]) -> bool
     name.iter().all(|byte| is_plain_byte(*byte))
 }
 
-fn is_plain_file(name: &[u8]) -> bool
+pub(crate) fn is_plain_file(name: &[u8]) -> bool
     ensures { result ≡ is_plain_file name.now }
 {
     if !is_file_name(name) {
@@ -74,30 +74,16 @@ fn node_in<'a>(begin: &[u8], bytes: &'a [u8]) -> Option<(NodeName, &'a [u8])>
     Some((NodeName::new(name)?, rest))
 }
 
-fn bracket_at(bytes: &[u8]) -> Option<usize>
-    ensures { result ≡ position (λ b. b == 41) bytes.now }
-{
-    bytes.iter().position(|byte| *byte == b')')
-}
-
-#[tactic(auto, using(crate::proofs::Places::place_is, crate::proofs::Places::place_within))]
-fn first_bracket(bytes: &[u8]) -> usize
-    ensures place { result ≡ first_place (λ b. b == 41) bytes.now }
-    ensures within { result ≤ length bytes.now }
-{
-    bracket_at(bytes).unwrap_or(bytes.len())
-}
-
 // The name up to the bracket, and the bytes behind that.
 fn name_in(bytes: &[u8]) -> Option<(&[u8], &[u8])>
     ensures { option_map (λ found. (found.0.now, found.1.now)) result ≡ upto_in 41 [] is_plain_file bytes.now }
 {
-    let (name, rest) = bytes.split_at(first_bracket(bytes));
-    if !is_plain_file(name) {
-        return None;
+    let (name, rest) = parted_at(b')', b")", bytes)?;
+    if is_plain_file(name) {
+        Some((name, rest))
+    } else {
+        None
     }
-    let rest = behind(b")", rest)?;
-    Some((name, rest))
 }
 
 fn file_in(bytes: &[u8]) -> Option<(&[u8], &[u8])>
@@ -106,7 +92,11 @@ fn file_in(bytes: &[u8]) -> Option<(&[u8], &[u8])>
     let (word, rest) = word_in(bytes)?;
     let value = behind(b"(FILE=", word)?;
     let (name, more) = name_in(value)?;
-    if more.is_empty() { Some((name, rest)) } else { None }
+    if more.is_empty() {
+        Some((name, rest))
+    } else {
+        None
+    }
 }
 
 fn are_digits(digits: &[u8]) -> bool
