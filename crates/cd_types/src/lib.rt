@@ -17,6 +17,8 @@ mod optional;
 mod proc_no;
 mod rows;
 mod short;
+#[cfg(test)]
+mod tests;
 
 pub use bytes::Bytes;
 pub use card::Filed;
