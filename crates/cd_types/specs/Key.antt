@@ -1,9 +1,8 @@
 -- Keys of steps.
 use Rattle.std.specs.Prelude.{ℕ, List, Bool, nat_le, IsTrue, Option}
-use Rattle.byteorder.specs.Endian.{big_bytes}
 use Rattle.cd_types.specs.Compound.{both_bytes, both_in, AreBoth, made_in}
 use Rattle.cd_types.specs.NodeName.{is_node_name, IsNodeName}
-use Rattle.cd_types.specs.Number.{IsNumber, number_in}
+use Rattle.cd_types.specs.Number.{IsNumber, number_in, number_bytes}
 use Rattle.cd_types.specs.ProcNo.{is_proc_no, IsProcNo}
 use Rattle.cd_types.specs.Text.{text_bytes, text_in, ranged_in}
 use Rattle.cd_types.specs.declared.key.Key.{Key}
@@ -25,8 +24,8 @@ key_of parts = record { pnode = parts.0; home = parts.1.0; number = parts.1.1.0;
 abbrev pub IsKey : Key → Type 0
 IsKey key = AreBoth IsNodeName (AreBoth (IsNumber 8) (AreBoth IsProcNo IsPlace)) (key_parts key)
 
-abbrev pub key_bytes : Key → List ℕ
-key_bytes key = both_bytes (text_bytes 1) (both_bytes (big_bytes 8) (both_bytes (big_bytes 4) (big_bytes 2))) (key_parts key)
+unfoldable pub key_bytes : Key → List ℕ
+key_bytes key = both_bytes (text_bytes 1) (both_bytes (number_bytes 8) (both_bytes (number_bytes 4) (number_bytes 2))) (key_parts key)
 
-abbrev pub key_in : List ℕ → Option (Key × List ℕ)
+unfoldable pub key_in : List ℕ → Option (Key × List ℕ)
 key_in = made_in key_of (both_in (text_in 1 is_node_name) (both_in (number_in 8) (both_in (ranged_in 4 is_proc_no) (ranged_in 2 is_place))))

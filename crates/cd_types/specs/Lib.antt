@@ -11,6 +11,7 @@ pub mod Key
 pub mod KeyLaw
 pub mod Label
 pub mod LabelLaw
+pub mod Layout
 pub mod Moment
 pub mod MomentLaw
 pub mod NodeName

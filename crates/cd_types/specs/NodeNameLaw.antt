@@ -1,8 +1,7 @@
 -- A node name is a field.
-use Rattle.std.proofs.Common.{ℕ, ◌<◌, ◌≤◌, ◌&&◌, leb, List, length, arith, length-append}
+use Rattle.std.proofs.Common.{ℕ, ◌≤◌, ◌&&◌, leb, List, length, arith}
 use Rattle.std.proofs.lemmas.Bool.{leb-true}
 use Rattle.std.specs.List.{list_all}
-use Rattle.byteorder.specs.Endian.{big_bytes}
 use Rattle.cd_types.specs.Format.{IsFormat}
 use Rattle.cd_types.specs.Text.{text_bytes, text_in}
 use Rattle.cd_types.specs.TextLaw.{both_true, text_law}
@@ -17,6 +16,3 @@ node_name_is_short name form =
 
 pub node_name_law : IsFormat IsNodeName (text_bytes 1) (text_in 1 is_node_name)
 node_name_law = text_law 1 is_node_name (λ name form. omega (arith, node_name_is_short name form))
-
-pub node_name_is_small : (name : List ℕ) → IsNodeName name → length (text_bytes 1 name) < 256
-node_name_is_small name form = omega (arith, node_name_is_short name form, length-append (big_bytes 1 (length name)) name)

@@ -1,3 +1,5 @@
+#![tactic(auto, unfolding(crate::specs::Filed::card_bytes, crate::specs::Filed::card_in))]
+
 ghost use Rattle.std.specs.Prelude.{◌≡◌, ⊤};
 ghost use Rattle.cd_types.specs.Filed.{IsCard, card_bytes, card_in};
 ghost use Rattle.cd_types.specs.FiledLaw.{card_law};
@@ -23,6 +25,8 @@ impl Field for Filed {
     ghost form = { IsCard };
 
     ghost writable = { λ _. ⊤ };
+
+    ghost longest = { 39 };
 
     ghost spelled = { card_bytes };
 

@@ -14,6 +14,9 @@ pub trait Field: Sized {
     /// What a caller has to know of a value to write it. A type that holds nothing else needs nothing.
     ghost writable: { Self → Type 0 };
 
+    /// The most bytes that a value has.
+    ghost longest: { ℕ };
+
     /// The bytes of a value.
     ghost spelled: { Self → List ℕ };
 
@@ -28,6 +31,7 @@ pub trait Field: Sized {
     fn size(&self) -> usize
         requires { writable self.now }
         ensures size { result ≡ length (spelled self.now) }
+        ensures short { result ≤ longest }
         ensures form { form self.now };
 
     /// Appends the field's bytes. It takes no memory.
@@ -63,6 +67,6 @@ pub trait Field: Sized {
 
 /// A field that has few bytes, whatever its value.
 pub trait Small: Field {
-    /// Fewer than 256.
-    ghost small: { (x : Self) → Self.form x → length (Self.spelled x) < 256 };
+    /// Fewer than 65,536.
+    ghost small: { Self.longest < 65536 };
 }

@@ -1,4 +1,6 @@
 //! Names of files and texts: fields that are lent and not kept.
+#![tactic(auto, unfolding(crate::specs::Text::text_bytes, crate::specs::Text::text_in, crate::specs::Number::number_bytes))]
+
 ghost use Rattle.std.specs.Prelude.{◌≡◌, ◌+◌, ◌≤◌, ◌++◌, length, option_map, vec_len, vec_capacity, IsTrue};
 ghost use Rattle.cd_types.specs.FileName.{is_own_file, is_file_name, is_text};
 ghost use Rattle.cd_types.specs.Text.{text_bytes, text_in};

@@ -1,6 +1,8 @@
+#![tactic(auto, unfolding(crate::specs::Key::key_bytes, crate::specs::Key::key_in, crate::specs::Text::ranged_in))]
+
 ghost use Rattle.std.specs.Prelude.{◌≡◌, option_map};
 ghost use Rattle.cd_types.specs.Key.{is_place, IsPlace, IsKey, key_bytes, key_in};
-ghost use Rattle.cd_types.specs.KeyLaw.{key_law, key_is_small};
+ghost use Rattle.cd_types.specs.KeyLaw.{key_law};
 ghost use Rattle.cd_types.specs.Text.{ranged_in};
 
 use crate::{Field, NodeName, ProcNo, Small};
@@ -32,6 +34,8 @@ impl Field for Key {
     ghost form = { IsKey };
 
     ghost writable = { λ key. IsPlace key.place };
+
+    ghost longest = { 31 };
 
     ghost spelled = { key_bytes };
 
@@ -70,5 +74,7 @@ impl Field for Key {
 }
 
 impl Small for Key {
-    ghost small = { key_is_small };
+    ghost use Rattle.std.proofs.Common.{arith};
+
+    ghost small = { Prim.omega arith };
 }

@@ -1,3 +1,5 @@
+#![tactic(auto, unfolding(crate::specs::Text::text_bytes, crate::specs::Text::text_in, crate::specs::Number::number_bytes))]
+
 ghost use Rattle.std.specs.Prelude.{◌≡◌, ⊤, map, if◌then◌else◌, Some, None};
 ghost use Rattle.std.specs.Char.{to_ascii_uppercase};
 ghost use Rattle.std.specs.List.{list_all, list_any};
@@ -145,6 +147,8 @@ impl Field for Label {
 
     ghost writable = { λ _. ⊤ };
 
+    ghost longest = { 9 };
+
     ghost spelled = { text_bytes 1 };
 
     ghost found_in = { text_in 1 is_label };
@@ -168,6 +172,7 @@ impl Field for Label {
         ))
     }
 
+    #[tactic(auto, using(crate::specs::LabelLaw::label_is_short), unfolding(crate::specs::Text::text_bytes, crate::specs::Number::number_bytes))]
     fn size(&self) -> usize {
         1 + self.as_bytes().len()
     }

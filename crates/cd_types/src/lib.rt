@@ -17,10 +17,12 @@ mod optional;
 mod proc_no;
 mod rows;
 mod short;
+#[cfg(test)]
+mod tests;
 
 pub use bytes::Bytes;
 pub use card::Filed;
-pub use choices::{Cause, Disp, Hold, Queue, Reason, Relation, Retain, Side, TaskKind};
+pub use choices::{Cause, Disp, Hold, How, Queue, Reason, Relation, Retain, Side, TaskKind};
 pub use field::{Field, Small};
 pub use file_name::{file_front, is_file_name, put_file, put_text, text_front};
 pub use key::Key;

@@ -1,7 +1,9 @@
+#![tactic(auto, unfolding(crate::specs::Text::ranged_in))]
+
 ghost use Rattle.std.specs.Prelude.{◌≡◌, ◌↔◌, ⊤, min, IsSome, IfSome};
-ghost use Rattle.byteorder.specs.Endian.{big_bytes};
+ghost use Rattle.cd_types.specs.Number.{number_bytes};
 ghost use Rattle.cd_types.specs.Moment.{is_moment, IsMoment};
-ghost use Rattle.cd_types.specs.MomentLaw.{moment_law, moment_is_small};
+ghost use Rattle.cd_types.specs.MomentLaw.{moment_law};
 ghost use Rattle.cd_types.specs.Text.{ranged_in};
 
 use crate::{Field, Small};
@@ -63,7 +65,9 @@ impl Field for Moment {
 
     ghost writable = { λ _. ⊤ };
 
-    ghost spelled = { big_bytes 8 };
+    ghost longest = { 8 };
+
+    ghost spelled = { number_bytes 8 };
 
     ghost found_in = { ranged_in 8 is_moment };
 
@@ -84,5 +88,7 @@ impl Field for Moment {
 }
 
 impl Small for Moment {
-    ghost small = { moment_is_small };
+    ghost use Rattle.std.proofs.Common.{arith};
+
+    ghost small = { Prim.omega arith };
 }

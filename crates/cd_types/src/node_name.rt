@@ -1,7 +1,9 @@
+#![tactic(auto, unfolding(crate::specs::Text::text_bytes, crate::specs::Text::text_in, crate::specs::Number::number_bytes))]
+
 ghost use Rattle.std.specs.Prelude.{◌≡◌, ⊤};
 ghost use Rattle.std.specs.List.{list_all};
 ghost use Rattle.cd_types.specs.NodeName.{is_node_byte, is_node_name, IsNodeName, node_name_of};
-ghost use Rattle.cd_types.specs.NodeNameLaw.{node_name_law, node_name_is_small};
+ghost use Rattle.cd_types.specs.NodeNameLaw.{node_name_law};
 ghost use Rattle.cd_types.specs.Text.{text_bytes, text_in};
 
 use crate::short::Short;
@@ -79,6 +81,8 @@ impl Field for NodeName {
 
     ghost writable = { λ _. ⊤ };
 
+    ghost longest = { 17 };
+
     ghost spelled = { text_bytes 1 };
 
     ghost found_in = { text_in 1 is_node_name };
@@ -94,6 +98,7 @@ impl Field for NodeName {
         Some((NodeName::new(text)?, rest))
     }
 
+    #[tactic(auto, using(crate::specs::NodeNameLaw::node_name_is_short), unfolding(crate::specs::Text::text_bytes, crate::specs::Number::number_bytes))]
     fn size(&self) -> usize {
         1 + self.as_bytes().len()
     }
@@ -106,5 +111,7 @@ impl Field for NodeName {
 }
 
 impl Small for NodeName {
-    ghost small = { node_name_is_small };
+    ghost use Rattle.std.proofs.Common.{arith};
+
+    ghost small = { Prim.omega arith };
 }

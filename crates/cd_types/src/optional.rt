@@ -1,6 +1,8 @@
 //! A field that may be missing, and a flag.
-ghost use Rattle.std.specs.Prelude.{◌≡◌, ⊤};
-ghost use Rattle.byteorder.specs.Endian.{big_bytes};
+#![tactic(auto, unfolding(crate::specs::Compound::optional_in, crate::specs::Number::number_bytes))]
+
+ghost use Rattle.std.specs.Prelude.{◌≡◌, ◌+◌, ⊤};
+ghost use Rattle.cd_types.specs.Number.{number_bytes};
 ghost use Rattle.cd_types.specs.Compound.{choice_in, flag, flags, optional_bytes, optional_in, IsOptional};
 ghost use Rattle.cd_types.specs.CompoundLaw.{flag_law, optional_law};
 
@@ -13,7 +15,9 @@ impl Field for bool {
 
     ghost writable = { λ _. ⊤ };
 
-    ghost spelled = { λ b. big_bytes 1 (flag b) };
+    ghost longest = { 1 };
+
+    ghost spelled = { λ b. number_bytes 1 (flag b) };
 
     ghost found_in = { choice_in flags };
 
@@ -37,6 +41,8 @@ impl<T: Small> Field for Option<T> {
     ghost form = { IsOptional T.form };
 
     ghost writable = { IsOptional T.writable };
+
+    ghost longest = { 1 + T.longest };
 
     ghost spelled = { optional_bytes T.spelled };
 
