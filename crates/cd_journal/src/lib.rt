@@ -1,0 +1,2 @@
+//! A journal over a disk: entries behind gates, each of them whole or not there at any moment of a crash.
+#![tactic(auto)]
