@@ -1,7 +1,6 @@
 -- Fronts of a journal, and what may stand behind them.
-use Rattle.std.proofs.Common.{◌≡◌, ◌≢◌, ℕ, zero, suc, ◌+◌, ◌≤◌, ◌<◌, List, [], ◌∷◌, ◌++◌, length, take, drop, Bool, true, false, cond, Result, Ok, Err, refl, sym, ◌∙◌, ap, inl, inr, arith, append_assoc, length-append}
-use Rattle.std.proofs.lemmas.Bool.{cases_eq}
-use Rattle.std.proofs.lemmas.Bool.{and_from, le-leb, cond-true, cond-false, ne_eqb}
+use Rattle.std.proofs.Common.{◌≡◌, ◌≢◌, ℕ, zero, suc, ◌+◌, ◌≤◌, List, [], ◌∷◌, ◌++◌, length, ◌&&◌, nat_le, true, false, Ok, Err, refl, sym, ◌∙◌, ap, arith, append_assoc, length-append}
+use Rattle.std.proofs.lemmas.Bool.{and_from, and_parts, le-leb, leb-true, cond-true, cond-false, ne_eqb}
 use Rattle.std.proofs.lemmas.List.{append-nil, take_at, drop_at}
 use Rattle.byteorder.specs.Numbers.{big_from-append}
 use Rattle.cd_journal.specs.Bytes.{Listing, header, told_length, has_body, first_body, with_first, gates, after_header, list_of, after_bodies, IsFront}
@@ -94,3 +93,18 @@ list_of-ended front bodies is = ap list_of (sym (append-nil front)) ∙ is.goes_
 -- no whole entry stands behind an open gate
 pub list_of-none : (front rest : List ℕ) (bodies : List (List ℕ)) → IsFront front bodies → has_body rest ≡ false → list_of (front ++ 1 ∷ rest) ≡ Err (length front + 1)
 list_of-none front rest bodies is none = is.goes_on (1 ∷ rest) ∙ ap (after_bodies bodies) (gates-none (length front) rest none)
+
+-- what a body in front says of the length
+pub record HasBody (bytes : List ℕ) : Type 0 where
+  pub low : 1 ≤ told_length bytes
+  pub high : told_length bytes ≤ 262144
+  pub whole : 4 + told_length bytes ≤ length bytes
+
+pub has_body-parts : (bytes : List ℕ) → has_body bytes ≡ true → HasBody bytes
+has_body-parts bytes h =
+    let outer : ((nat_le 1 (told_length bytes) && nat_le (told_length bytes) 262144) ≡ true) × (nat_le (4 + told_length bytes) (length bytes) ≡ true) = and_parts _ _ h in
+    let inner : (nat_le 1 (told_length bytes) ≡ true) × (nat_le (told_length bytes) 262144 ≡ true) = and_parts _ _ outer.0 in
+    record { low = leb-true _ _ inner.0; high = leb-true _ _ inner.1; whole = leb-true _ _ outer.1 }
+
+pub has_body-true : (bytes : List ℕ) → 1 ≤ told_length bytes → told_length bytes ≤ 262144 → 4 + told_length bytes ≤ length bytes → has_body bytes ≡ true
+has_body-true bytes low high whole = and_from _ _ (and_from _ _ (le-leb _ _ low) (le-leb _ _ high)) (le-leb _ _ whole)

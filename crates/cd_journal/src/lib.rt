@@ -1,2 +1,8 @@
 //! A journal over a disk: entries behind gates, each of them whole or not there at any moment of a crash.
 #![tactic(auto)]
+
+mod fault;
+mod place;
+mod reading;
+
+pub use fault::JournalFault;
