@@ -63,7 +63,7 @@ below_more places end len is = record {
   fewer = omega (arith, is.fewer, length_push places (record { at = end + 5; len = len }));
 }
 
-split_at : (bytes : List ℕ) (end : ℕ) → end < length bytes → bytes ≡ take end bytes ++ get_or bytes end 0 ∷ drop (end + 1) bytes
+pub split_at : (bytes : List ℕ) (end : ℕ) → end < length bytes → bytes ≡ take end bytes ++ get_or bytes end 0 ∷ drop (end + 1) bytes
 split_at bytes end inside = sym (take-append-drop end bytes) ∙ ap (λ (l : List ℕ). take end bytes ++ l) (drop_more bytes end 0 inside)
 
 -- the bytes end where a gate has to stand

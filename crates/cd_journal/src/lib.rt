@@ -4,5 +4,6 @@
 mod fault;
 mod place;
 mod reading;
+mod writing;
 
 pub use fault::JournalFault;
