@@ -33,7 +33,7 @@ bodies_in-same a b end (place ∷ places) same all =
     let rest = bodies_in-same a b end places same (below_tail place places end all) in
     rw (first, rest) refl
 
-told_length-back : (n : ℕ) → n ≤ 262144 → told_length (big_bytes 4 n) ≡ n
+pub told_length-back : (n : ℕ) → n ≤ 262144 → told_length (big_bytes 4 n) ≡ n
 unfolding told_length
 told_length-back n high = ap told_length (sym (append-nil (big_bytes 4 n))) ∙ big_number-reads_back 4 n [] (omega arith)
 

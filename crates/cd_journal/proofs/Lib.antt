@@ -1,4 +1,5 @@
 pub mod Append
+pub mod Entry
 pub mod Fronts
 pub mod Header
 pub mod Steps

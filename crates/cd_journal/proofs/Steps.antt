@@ -1,5 +1,5 @@
 -- An index that grows by an entry.
-use Rattle.std.proofs.Common.{◌≡◌, ◌≢◌, ℕ, suc, ◌+◌, ◌-◌, ◌≤◌, ◌<◌, List, [], ◌∷◌, ◌++◌, length, take, drop, get_or, true, false, Ok, Err, sym, ◌∙◌, ap, subst, arith, length-drop}
+use Rattle.std.proofs.Common.{◌≡◌, ◌≢◌, ℕ, suc, ◌+◌, ◌-◌, ◌≤◌, ◌<◌, ◌^◌, List, [], ◌∷◌, ◌++◌, length, take, drop, get_or, true, false, Ok, Err, sym, ◌∙◌, ap, subst, arith, length-drop}
 use Rattle.std.proofs.Math.Seq.{take-add}
 use Rattle.std.proofs.lemmas.List.{take-append-drop, take_all, drop_more, drop-drop, length-take-le, map_push, length-take, length_push}
 use Rattle.std.proofs.lemmas.List.Elements.{All-nil, All-push, All-weaker}
@@ -52,15 +52,16 @@ indexed_more bytes places end len is inside gate has told =
       inside = omega (arith, parts.whole, length-drop (end + 1) bytes);
     }
 
-pub below_none : (end : ℕ) → IsBelow [] end
-below_none end = record { ends = All-nil _; fewer = omega arith }
+pub below_none : (end : ℕ) → end < 2 ^ 32 → IsBelow [] end
+below_none end small = record { ends = All-nil _; fewer = omega arith; small = small }
 
-pub below_more : (places : List Place) (end len : ℕ) → IsBelow places end → IsBelow (places ++ (record { at = end + 5; len = len }) ∷ []) (end + 5 + len)
-below_more places end len is = record {
+pub below_more : (places : List Place) (end len : ℕ) → IsBelow places end → end + 5 + len < 2 ^ 32 → IsBelow (places ++ (record { at = end + 5; len = len }) ∷ []) (end + 5 + len)
+below_more places end len is small = record {
   ends = All-push (λ (place : Place). place.at + place.len ≤ end + 5 + len) places (record { at = end + 5; len = len })
       (All-weaker (λ (place : Place). place.at + place.len ≤ end) (λ (place : Place). place.at + place.len ≤ end + 5 + len) (λ place low. omega arith) places is.ends)
       (omega arith);
   fewer = omega (arith, is.fewer, length_push places (record { at = end + 5; len = len }));
+  small = small;
 }
 
 pub split_at : (bytes : List ℕ) (end : ℕ) → end < length bytes → bytes ≡ take end bytes ++ get_or bytes end 0 ∷ drop (end + 1) bytes

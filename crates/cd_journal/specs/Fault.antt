@@ -1,5 +1,5 @@
 -- What is said of each fault that a call may answer.
-use Rattle.std.specs.Prelude.{ℕ, Result, Err, ⊤}
+use Rattle.std.specs.Prelude.{ℕ, Bool, false, Result, Err, ⊤}
 use Rattle.cd_journal.specs.declared.fault.JournalFault.{JournalFault}
 use Rattle.cd_journal.specs.declared.fault.JournalFault.TheVariants.{Disk, Full, Unfit, NoMemory}
 
@@ -22,3 +22,8 @@ IfUnfit result P = ⊤
 abbrev pub OnNoMemory : {T : Type 0} → Result T JournalFault → Type 0 → Type 0
 OnNoMemory (Err NoMemory) P = P
 OnNoMemory result P = ⊤
+
+-- whether a journal is sound after a call that answered so: no longer after Disk, else as it was
+abbrev pub sound_after : {T : Type 0} → Result T JournalFault → Bool → Bool
+sound_after (Err Disk) was = false
+sound_after result was = was

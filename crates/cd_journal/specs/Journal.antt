@@ -36,6 +36,14 @@ pub record KeepsList (old new : Held) : Type 0 where
   pub spare : old.spare ≤ new.spare
   pub room : old.room ≤ new.room
 
+-- an entry more, of this many bytes, for which one more place was used
+pub record GrowsBy (len : ℕ) (old new : Held) : Type 0 where
+  pub count : length new.places ≡ length old.places + 1
+  pub end : new.end ≡ old.end + 5 + len
+  pub has_header : new.has_header ≡ old.has_header
+  pub spare : old.spare ≤ new.spare + 1
+  pub room : old.room ≤ new.room
+
 -- a list with one body more
 abbrev pub with_last : Listing → List ℕ → Listing
 with_last (Ok bodies) body = Ok (bodies ++ body ∷ [])

@@ -2,8 +2,10 @@
 #![tactic(auto)]
 
 mod fault;
+mod journal;
 mod place;
 mod reading;
 mod writing;
 
 pub use fault::JournalFault;
+pub use journal::Journal;

@@ -1,4 +1,4 @@
-use Rattle.std.proofs.Common.{◌≡◌, ℕ, ◌+◌, List, drop, true, false, sym, ap, ◌∙◌, subst, arith}
+use Rattle.std.proofs.Common.{◌≡◌, ℕ, ◌+◌, List, drop, true, false, sym, ap, ◌∙◌, subst, arith, lit<}
 use Rattle.std.proofs.lemmas.Bool.{false_from_ne_true}
 use Rattle.std.proofs.lemmas.List.{take_rest}
 use Rattle.cd_journal.specs.Bytes.{told_length, has_body}
@@ -12,7 +12,7 @@ loop-end-init c =
     let none = c.new-places.ensures.items in
     record {
       indexed = subst (λ (l : List Place). IsIndexed c.args.bytes.now l 8) (sym none) (indexed_header c.args.bytes.now c.requires.header);
-      below = subst (λ (l : List Place). IsBelow l 8) (sym none) (below_none 8);
+      below = subst (λ (l : List Place). IsBelow l 8) (sym none) (below_none 8 (lit< tt));
       small = c.requires.small;
     }
 
@@ -30,9 +30,10 @@ loop-end-preserved c =
     let more = c.in_ok-push.ensures.items in
     let on : c.loop-end.end + (5 + c.in-Some.len) ≡ c.loop-end.end + 5 + c.in-Some.len = omega arith in
     let place : Place = record { at = c.loop-end.end + 5; len = c.in-Some.len } in
+    let indexed = indexed_more c.args.bytes.now c.loop-end.places.items c.loop-end.end c.in-Some.len c.loop-end.invariant.indexed (omega arith) (omega arith) has told in
     record {
       indexed = rw (on, more) (indexed_more c.args.bytes.now c.loop-end.places.items c.loop-end.end c.in-Some.len c.loop-end.invariant.indexed (omega arith) (omega arith) has told);
-      below = rw (on, more) (below_more c.loop-end.places.items c.loop-end.end c.in-Some.len c.loop-end.invariant.below);
+      below = rw (on, more) (below_more c.loop-end.places.items c.loop-end.end c.in-Some.len c.loop-end.invariant.below (omega arith));
       small = c.requires.small;
     }
 

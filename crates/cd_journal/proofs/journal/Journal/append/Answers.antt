@@ -1,0 +1,31 @@
+use Rattle.std.proofs.Common.{◌≡◌, ◌+◌, ◌∷◌, [], ◌++◌, length, refl, sym, ◌∙◌, subst}
+use Rattle.cd_journal.specs.Journal.{Held, IsAt, entry_block}
+use Rattle.cd_journal.specs.declared.place.Place.{Place}
+use Rattle.cd_journal.proofs.Entry.{entry_at, entry_list, entry_moments}
+use Rattle.cd_journal.proofs.journal.Journal.append.Goals as goal
+
+pub returns-in-Ok-clause-at : goal.returns-in-Ok-clause-at
+returns-in-Ok-clause-at g c told =
+    let at = subst (λ (j : Held). IsAt j (g.P.Disk.state c.args.disk.now)) (sym c.self.view_is) (c.requires.at told) in
+    let block : c.deref.result.now ≡ entry_block c.args.body.now = c.deref.ensures.value ∙ c.in_ok-fill.ensures.block in
+    let place : Place = record { at = c.self.inside.end + 5; len = length c.args.body.now } in
+    let places : c.push.new.self.items ≡ c.self.inside.places.items ++ place ∷ [] = rw (c.unwrap.ensures, c.reserve.ensures.items) at c.push.ensures.items in
+    entry_at _ _ at c.args.body.now c.deref.result.now block c.requires.some c.requires.short c.self.invariant (g.P.Disk.state c.put.new.disk) _ (c.in-Ok.ensures.done told) places refl
+
+pub returns-in-Ok-clause-list : goal.returns-in-Ok-clause-list
+returns-in-Ok-clause-list g c told =
+    let at = subst (λ (j : Held). IsAt j (g.P.Disk.state c.args.disk.now)) (sym c.self.view_is) (c.requires.at told) in
+    let block : c.deref.result.now ≡ entry_block c.args.body.now = c.deref.ensures.value ∙ c.in_ok-fill.ensures.block in
+    entry_list _ _ at c.args.body.now c.deref.result.now block c.requires.some c.requires.short (g.P.Disk.state c.put.new.disk) (c.in-Ok.ensures.done told)
+
+pub returns-in-Ok-clause-moments : goal.returns-in-Ok-clause-moments
+returns-in-Ok-clause-moments g c told =
+    let at = subst (λ (j : Held). IsAt j (g.P.Disk.state c.args.disk.now)) (sym c.self.view_is) (c.requires.at told) in
+    let block : c.deref.result.now ≡ entry_block c.args.body.now = c.deref.ensures.value ∙ c.in_ok-fill.ensures.block in
+    entry_moments _ _ at c.args.body.now c.deref.result.now block c.requires.some c.requires.short (g.P.Disk.state c.args.disk.now) (g.P.Disk.state c.put.new.disk) c.args.beat.now (c.in-Ok.ensures.moments told)
+
+pub returns-in-Err-clause-moments : goal.returns-in-Err-clause-moments
+returns-in-Err-clause-moments g c told =
+    let at = subst (λ (j : Held). IsAt j (g.P.Disk.state c.args.disk.now)) (sym c.self.view_is) (c.requires.at told) in
+    let block : c.deref.result.now ≡ entry_block c.args.body.now = c.deref.ensures.value ∙ c.in_ok-fill.ensures.block in
+    entry_moments _ _ at c.args.body.now c.deref.result.now block c.requires.some c.requires.short (g.P.Disk.state c.args.disk.now) (g.P.Disk.state c.put.new.disk) c.args.beat.now (c.in-Err.ensures.moments told)
