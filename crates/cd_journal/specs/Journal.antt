@@ -1,5 +1,5 @@
 -- A journal, and the disk on which it stands.
-use Rattle.std.specs.Prelude.{◌≡◌, ◌⊎◌, ℕ, ◌+◌, ◌≤◌, List, [], ◌∷◌, ◌++◌, length, Bool, Ok, Err}
+use Rattle.std.specs.Prelude.{◌≡◌, ◌⊎◌, ℕ, ◌+◌, ◌≤◌, List, [], ◌∷◌, ◌++◌, length, Bool, true, Ok, Err, ◌↔◌, ◌<◌}
 use Rattle.byteorder.specs.Endian.{big_bytes}
 use Rattle.cd_outside.specs.Doubt.{settled}
 use Rattle.cd_outside.specs.Disk.{DiskState}
@@ -26,6 +26,14 @@ length_of journal = journal.end + 1
 pub record IsAt (journal : Held) (disk : DiskState) : Type 0 where
   pub closed : IsClosed disk.seen journal.places journal.end
   pub list : list_of disk.seen ≡ Ok (bodies_in disk.seen journal.places)
+  pub rests : disk.doubt ≡ settled disk.seen
+
+-- The journal was opened on this disk, which rests: it has the disk's list, and stands on it where there is a header; there
+-- is none exactly where there are no bytes.
+pub record Opens (journal : Held) (disk : DiskState) : Type 0 where
+  pub list : list_of disk.seen ≡ Ok (bodies_in disk.seen journal.places)
+  pub at : journal.has_header ≡ true → IsAt journal disk
+  pub header : (journal.has_header ≡ true) ↔ (0 < length disk.seen)
   pub rests : disk.doubt ≡ settled disk.seen
 
 -- the same entries, with no less room

@@ -1,6 +1,7 @@
 ghost use Rattle.std.specs.Prelude.{◌≡◌};
-ghost use Rattle.cd_journal.specs.declared.fault.JournalFault.TheVariants.{NoMemory};
+ghost use Rattle.cd_journal.specs.declared.fault.JournalFault.TheVariants.{Disk, NoMemory};
 
+use cd_outside::Failed;
 use std::alloc::{AllocError, AllocFailed};
 use thiserror::Error;
 
@@ -34,5 +35,13 @@ impl<T: Drop> From<AllocFailed<T>> for JournalFault {
 
     fn from(_: AllocFailed<T>) -> Self {
         JournalFault::NoMemory
+    }
+}
+
+impl From<Failed> for JournalFault {
+    ghost from_gives = { λ _ e. e ≡ Disk };
+
+    fn from(_: Failed) -> Self {
+        JournalFault::Disk
     }
 }

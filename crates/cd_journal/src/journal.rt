@@ -1,4 +1,4 @@
-ghost use Rattle.std.specs.Prelude.{◌≡◌, ◌≢◌, ℕ, ◌+◌, ◌-◌, ◌*◌, ◌<◌, ◌≤◌, ◌^◌, ◌↔◌, List, [], ◌∷◌, ◌++◌, length, IsTrue, IfOk, OnOk, OnErr, vec_len, vec_capacity, min, max, true, false};
+ghost use Rattle.std.specs.Prelude.{◌≡◌, ◌≢◌, ℕ, ◌+◌, ◌-◌, ◌*◌, ◌<◌, ◌≤◌, ◌^◌, ◌↔◌, List, [], ◌∷◌, ◌++◌, length, IsTrue, IfOk, OnOk, OnErr, vec_len, vec_capacity, min, max, Some, slice_get, true, false};
 ghost use Rattle.cd_outside.specs.Counts.{Rose};
 ghost use Rattle.cd_outside.specs.Doubt.{settled, IsImage};
 ghost use Rattle.cd_outside.specs.Disk.{last_of, LeftAt};
@@ -7,18 +7,23 @@ ghost use Rattle.cd_outside.specs.Through.{IsSettledAs};
 ghost use Rattle.cd_journal.specs.Bytes.{header, list_of};
 ghost use Rattle.cd_journal.specs.Fault.{OnDisk, IfFull, IfUnfit, OnNoMemory, sound_after};
 ghost use Rattle.cd_journal.specs.Index.{bodies_in};
-ghost use Rattle.cd_journal.specs.Journal.{length_of, IsAt, KeepsList, GrowsBy, with_last, IsBeforeOrAfter};
+ghost use Rattle.cd_journal.specs.Journal.{length_of, Opens, IsAt, KeepsList, GrowsBy, with_last, IsBeforeOrAfter};
 
 use crate::JournalFault;
+use crate::loading::read_into;
 use crate::place::Place;
+use crate::reading::{Index, scan};
 use crate::writing::{fill, put};
-use cd_outside::{Beat, Disk};
+use cd_outside::{Beat, Disk, sync_now};
 use cd_types::NoMemory;
 use std::alloc::Global;
 use std::marker::Model;
 
 /// The greatest length of a journal, in bytes.
 const MAX_LENGTH: usize = 1 << 30;
+
+/// The bytes of a journal without entries: the header and a closed gate.
+const BLANK: [u8; 9] = *b"CDNODE01\0";
 
 /// The list of the entries on a disk, which isn't held but handed to each call. It knows where each body stands.
 ///
@@ -52,6 +57,48 @@ impl Model for Journal {
 }
 
 impl Journal {
+    /// Writes the header and a closed gate onto a disk without bytes. A stop within may leave any bytes, as many at
+    /// most: the file is then deleted, and made anew.
+    pub fn create<P: Disk>(disk: &mut P, beat: &mut Beat) -> Result<(), JournalFault>
+        requires empty { P.told → (P.state disk.old).seen ≡ [] }
+        requires order { P.told → last_of (P.state disk.old).calls ≤ beat.old }
+        ensures created { P.told → OnOk result (IsSettledAs (header ++ 0 ∷ []) (P.state disk.new)) }
+        ensures moments { P.told → Moments (LeftAt (P.state disk.old)) (LeftAt (P.state disk.new)) beat.old (λ image. length image ≤ max (P.state disk.old).doubt.greatest 9) }
+        ensures cause { OnDisk result (Rose (P.faults disk.old) (P.faults disk.new)) }
+        ensures full { IfFull result (λ _. ⊥) }
+        ensures unfit { IfUnfit result (λ _. ⊥) }
+        ensures memory { OnNoMemory result ⊥ }
+        ensures order { P.told → last_of (P.state disk.new).calls ≤ beat.new }
+        ensures beat { beat.old ≤ beat.new }
+        ensures later { P.faults disk.old ≤ P.faults disk.new }
+    {
+        disk.write_at(0, &BLANK, beat)?;
+        disk.sync(beat)?;
+        Ok(())
+    }
+
+    /// Syncs the disk and reads its list. `Unfit` tells the first place at which the bytes aren't a journal's, exactly
+    /// where there is one. A disk without bytes opens as a journal without a header and without entries.
+    ///
+    /// A disk of 2^32 bytes or more, which no append makes, is answered as want of memory.
+    pub fn open<P: Disk>(alloc: Global, disk: &mut P, beat: &mut Beat) -> Result<Self, JournalFault>
+        requires { P.told → last_of (P.state disk.old).calls ≤ beat.old }
+        ensures opens { P.told → IfOk result (λ journal. Opens journal (P.state disk.new)) }
+        ensures sound { IfOk result (λ journal. journal.sound ≡ true) }
+        ensures unfit { P.told → IfUnfit result (λ at. list_of (P.state disk.old).seen ≡ Err at) }
+        ensures same { P.told → (P.state disk.new).seen ≡ (P.state disk.old).seen }
+        ensures moments { P.told → Moments (LeftAt (P.state disk.old)) (LeftAt (P.state disk.new)) beat.old (IsImage (P.state disk.old).doubt) }
+        ensures cause { OnDisk result (Rose (P.faults disk.old) (P.faults disk.new)) }
+        ensures full { IfFull result (λ _. ⊥) }
+        ensures order { P.told → last_of (P.state disk.new).calls ≤ beat.new }
+        ensures beat { beat.old ≤ beat.new }
+        ensures later { P.faults disk.old ≤ P.faults disk.new }
+    {
+        sync_now(disk, beat)?;
+        let journal = load(alloc, disk)?;
+        Ok(journal)
+    }
+
     /// How many entries the list has.
     pub fn count(&self) -> u32
         ensures { result ≡ length self.now.places }
@@ -146,4 +193,69 @@ impl Journal {
             }
         }
     }
+
+    /// Puts the body of an entry, counted from 0, into the vector in place of what it held.
+    pub fn entry<P: Disk>(
+        &mut self,
+        disk: &mut P,
+        i: u32,
+        into: &mut Vec<u8>,
+    ) -> Result<(), JournalFault>
+        requires below { i < length self.old.places }
+        requires at { P.told → IsAt self.old (P.state disk.old) }
+        ensures body { P.told → OnOk result (IfOk (list_of (P.state disk.old).seen) (λ bodies. slice_get bodies i ≡ Some into.new.items)) }
+        ensures same { P.told → P.state disk.new ≡ P.state disk.old }
+        ensures kept { KeepsList self.old self.new }
+        ensures sound { self.new.sound ≡ sound_after result self.old.sound }
+        ensures cause { OnDisk result (Rose (P.faults disk.old) (P.faults disk.new)) }
+        ensures full { IfFull result (λ _. ⊥) }
+        ensures unfit { IfUnfit result (λ _. ⊥) }
+        ensures later { P.faults disk.old ≤ P.faults disk.new }
+    {
+        let place = self.places[i as usize];
+        match read_into(disk, place.at as u64, place.len as usize, into) {
+            Ok(()) => Ok(()),
+            Err(JournalFault::Disk) => {
+                self.sound = false;
+                Err(JournalFault::Disk)
+            }
+            Err(fault) => Err(fault),
+        }
+    }
+}
+
+// Reads the list of a disk that was synced.
+fn load<P: Disk>(alloc: Global, disk: &mut P) -> Result<Journal, JournalFault>
+    requires { P.told → (P.state disk.old).doubt ≡ settled (P.state disk.old).seen }
+    ensures opens { P.told → IfOk result (λ journal. Opens journal (P.state disk.old)) }
+    ensures sound { IfOk result (λ journal. journal.sound ≡ true) }
+    ensures unfit { P.told → IfUnfit result (λ at. list_of (P.state disk.old).seen ≡ Err at) }
+    ensures same { P.told → P.state disk.new ≡ P.state disk.old }
+    ensures cause { OnDisk result (Rose (P.faults disk.old) (P.faults disk.new)) }
+    ensures full { IfFull result (λ _. ⊥) }
+    ensures later { P.faults disk.old ≤ P.faults disk.new }
+{
+    let len = disk.len()?;
+    if len == 0 {
+        return Ok(Journal {
+            places: Vec::new(alloc),
+            end: 0,
+            has_header: false,
+            sound: true,
+            block: Vec::new(alloc),
+        });
+    }
+    if len > u32::MAX as u64 {
+        return Err(JournalFault::NoMemory);
+    }
+    let mut bytes = Vec::new(alloc);
+    read_into(disk, 0, len as usize, &mut bytes)?;
+    let Index { places, end } = scan(alloc, &bytes)?;
+    Ok(Journal {
+        places,
+        end,
+        has_header: true,
+        sound: true,
+        block: Vec::new(alloc),
+    })
 }

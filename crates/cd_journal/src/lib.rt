@@ -3,6 +3,7 @@
 
 mod fault;
 mod journal;
+mod loading;
 mod place;
 mod reading;
 mod writing;

@@ -1,7 +1,7 @@
 use Rattle.std.proofs.Common.{◌≡◌, ◌+◌, ◌∷◌, [], ◌++◌, length, refl, sym, ◌∙◌, subst}
 use Rattle.cd_journal.specs.Journal.{Held, IsAt, entry_block}
 use Rattle.cd_journal.specs.declared.place.Place.{Place}
-use Rattle.cd_journal.proofs.Entry.{entry_at, entry_list, entry_moments}
+use Rattle.cd_journal.proofs.Entry.{entry_at, entry_list, entry_moments, nothing_done}
 use Rattle.cd_journal.proofs.journal.Journal.append.Goals as goal
 
 pub returns-in-Ok-clause-at : goal.returns-in-Ok-clause-at
@@ -29,3 +29,15 @@ returns-in-Err-clause-moments g c told =
     let at = subst (λ (j : Held). IsAt j (g.P.Disk.state c.args.disk.now)) (sym c.self.view_is) (c.requires.at told) in
     let block : c.deref.result.now ≡ entry_block c.args.body.now = c.deref.ensures.value ∙ c.in_ok-fill.ensures.block in
     entry_moments _ _ at c.args.body.now c.deref.result.now block c.requires.some c.requires.short (g.P.Disk.state c.args.disk.now) (g.P.Disk.state c.put.new.disk) c.args.beat.now (c.in-Err.ensures.moments told)
+
+pub returns-then-gate-body-gt-MAX_LENGTH-clause-moments : goal.returns-then-gate-body-gt-MAX_LENGTH-clause-moments
+returns-then-gate-body-gt-MAX_LENGTH-clause-moments g c told =
+    nothing_done c.args.self.now (g.P.Disk.state c.args.disk.now) c.args.beat.now c.args.body.now (c.requires.at told) (c.requires.order told)
+
+pub returns-in_err-reserve-clause-moments : goal.returns-in_err-reserve-clause-moments
+returns-in_err-reserve-clause-moments g c told =
+    nothing_done c.args.self.now (g.P.Disk.state c.args.disk.now) c.args.beat.now c.args.body.now (c.requires.at told) (c.requires.order told)
+
+pub returns-in_err-fill-clause-moments : goal.returns-in_err-fill-clause-moments
+returns-in_err-fill-clause-moments g c told =
+    nothing_done c.args.self.now (g.P.Disk.state c.args.disk.now) c.args.beat.now c.args.body.now (c.requires.at told) (c.requires.order told)
