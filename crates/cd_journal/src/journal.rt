@@ -7,7 +7,8 @@ ghost use Rattle.cd_outside.specs.Through.{IsSettledAs};
 ghost use Rattle.cd_journal.specs.Bytes.{header, list_of};
 ghost use Rattle.cd_journal.specs.Fault.{OnDisk, IfFull, IfUnfit, OnNoMemory, sound_after};
 ghost use Rattle.cd_journal.specs.Index.{bodies_in};
-ghost use Rattle.cd_journal.specs.Journal.{length_of, Opens, IsAt, KeepsList, GrowsBy, with_last, IsBeforeOrAfter};
+ghost use Rattle.cd_journal.specs.Journal.{length_of, Opens, IsAt, KeepsList, GrowsBy, with_last, IsBeforeOrAfter, entry_block};
+ghost use Rattle.cd_journal.specs.Writing.{opened};
 
 use crate::JournalFault;
 use crate::loading::read_into;
@@ -153,6 +154,7 @@ impl Journal {
         // Acknowledged: it is on the disk.
         ensures at { P.told → OnOk result (IsAt self.new (P.state disk.new)) }
         ensures list { P.told → OnOk result (list_of (P.state disk.new).seen ≡ with_last (list_of (P.state disk.old).seen) body.now) }
+        ensures bytes { P.told → OnOk result ((P.state disk.new).seen ≡ opened self.old.end (entry_block body.now) (P.state disk.old).seen) }
         ensures grows { OnOk result (GrowsBy (length body.now) self.old self.new) }
 
         // At each moment it counts as a whole or not at all.

@@ -1,5 +1,6 @@
-use Rattle.std.proofs.Common.{◌≡◌, ◌+◌, ◌∷◌, [], ◌++◌, length, refl, sym, ◌∙◌, subst}
+use Rattle.std.proofs.Common.{ℕ, List, ap, ◌≡◌, ◌+◌, ◌∷◌, [], ◌++◌, length, refl, sym, ◌∙◌, subst}
 use Rattle.cd_journal.specs.Journal.{Held, IsAt, entry_block}
+use Rattle.cd_journal.specs.Writing.{opened}
 use Rattle.cd_journal.specs.declared.place.Place.{Place}
 use Rattle.cd_journal.proofs.Entry.{entry_at, entry_list, entry_moments, nothing_done}
 use Rattle.cd_journal.proofs.journal.Journal.append.Goals as goal
@@ -41,3 +42,11 @@ returns-in_err-reserve-clause-moments g c told =
 pub returns-in_err-fill-clause-moments : goal.returns-in_err-fill-clause-moments
 returns-in_err-fill-clause-moments g c told =
     nothing_done c.args.self.now (g.P.Disk.state c.args.disk.now) c.args.beat.now c.args.body.now (c.requires.at told) (c.requires.order told)
+
+pub returns-in-Ok-clause-bytes : goal.returns-in-Ok-clause-bytes
+returns-in-Ok-clause-bytes g c told =
+    let block : c.deref.result.now ≡ entry_block c.args.body.now = c.deref.ensures.value ∙ c.in_ok-fill.ensures.block in
+    let end : c.self.inside.end ≡ c.args.self.now.end = ap (λ (j : Held). j.end) c.self.view_is in
+    (c.in-Ok.ensures.done told).seen
+    ∙ ap (λ (l : List ℕ). opened c.self.inside.end l (g.P.Disk.state c.args.disk.now).seen) block
+    ∙ ap (λ (k : ℕ). opened k (entry_block c.args.body.now) (g.P.Disk.state c.args.disk.now).seen) end
