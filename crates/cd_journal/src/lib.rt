@@ -10,3 +10,6 @@ mod writing;
 
 pub use fault::JournalFault;
 pub use journal::Journal;
+
+#[cfg(test)]
+mod tests;
