@@ -190,7 +190,7 @@ impl Journal {
                 Ok(())
             }
             Err(_) => {
-                self.sound = false;
+                self.sound = false; // what the disk holds isn't known now
                 Err(JournalFault::Disk)
             }
         }
