@@ -58,13 +58,14 @@ impl Model for Journal {
 }
 
 impl Journal {
-    /// Writes the header and a closed gate onto a disk without bytes. A stop within may leave any bytes, as many at
-    /// most: the file is then deleted, and made anew.
+    /// Writes the header and a closed gate, 9 bytes, onto a disk without bytes. A stop within may leave any bytes, up to
+    /// so many: the file is then deleted, and made anew.
     pub fn create<P: Disk>(disk: &mut P, beat: &mut Beat) -> Result<(), JournalFault>
         requires empty { P.told → (P.state disk.old).seen ≡ [] }
         requires order { P.told → last_of (P.state disk.old).calls ≤ beat.old }
         ensures created { P.told → OnOk result (IsSettledAs (header ++ 0 ∷ []) (P.state disk.new)) }
-        ensures moments { P.told → Moments (LeftAt (P.state disk.old)) (LeftAt (P.state disk.new)) beat.old (λ image. length image ≤ max (P.state disk.old).doubt.greatest 9) }
+        ensures moments { P.told → Moments (LeftAt (P.state disk.old)) (LeftAt (P.state disk.new)) beat.old
+            (λ image. length image ≤ max (P.state disk.old).doubt.greatest 9) }
         ensures cause { OnDisk result (Rose (P.faults disk.old) (P.faults disk.new)) }
         ensures full { IfFull result (λ _. ⊥) }
         ensures unfit { IfUnfit result (λ _. ⊥) }
@@ -88,7 +89,8 @@ impl Journal {
         ensures sound { IfOk result (λ journal. journal.sound ≡ true) }
         ensures unfit { P.told → IfUnfit result (λ at. list_of (P.state disk.old).seen ≡ Err at) }
         ensures same { P.told → (P.state disk.new).seen ≡ (P.state disk.old).seen }
-        ensures moments { P.told → Moments (LeftAt (P.state disk.old)) (LeftAt (P.state disk.new)) beat.old (IsImage (P.state disk.old).doubt) }
+        ensures moments { P.told → Moments (LeftAt (P.state disk.old)) (LeftAt (P.state disk.new)) beat.old
+            (IsImage (P.state disk.old).doubt) }
         ensures cause { OnDisk result (Rose (P.faults disk.old) (P.faults disk.new)) }
         ensures full { IfFull result (λ _. ⊥) }
         ensures order { P.told → last_of (P.state disk.new).calls ≤ beat.new }
@@ -121,7 +123,8 @@ impl Journal {
         self.has_header
     }
 
-    /// Makes room, so that this many appends of bodies of at most this many bytes take no memory.
+    /// Makes room, so that this many appends of bodies of at most this many bytes take no memory. At an `Err` the
+    /// journal is as it was, and may have more room.
     pub fn reserve(&mut self, entries: u32, bytes: usize) -> Result<(), NoMemory>
         ensures reserved { OnOk result ((entries ≤ self.new.spare) × (min bytes 262144 ≤ self.new.room)) }
         ensures kept { KeepsList self.old self.new }
@@ -137,7 +140,7 @@ impl Journal {
     /// list that has it. A crash at any moment of the call leaves the list from before it, or the list with the body.
     ///
     /// `Full` exactly where the journal's length, 5 and the body's length are above 2^30. `NoMemory` and `Full` come
-    /// before any call of the disk. After `Disk` the journal isn't sound.
+    /// before any call of the disk, and leave the list as it was. After `Disk` the journal isn't sound.
     pub fn append<P: Disk>(
         &mut self,
         disk: &mut P,
@@ -153,16 +156,21 @@ impl Journal {
 
         // Acknowledged: it is on the disk.
         ensures at { P.told → OnOk result (IsAt self.new (P.state disk.new)) }
-        ensures list { P.told → OnOk result (list_of (P.state disk.new).seen ≡ with_last (list_of (P.state disk.old).seen) body.now) }
-        ensures bytes { P.told → OnOk result ((P.state disk.new).seen ≡ opened self.old.end (entry_block body.now) (P.state disk.old).seen) }
+        ensures list { P.told → OnOk result
+            (list_of (P.state disk.new).seen ≡ with_last (list_of (P.state disk.old).seen) body.now) }
+        ensures bytes { P.told → OnOk result
+            ((P.state disk.new).seen ≡ opened self.old.end (entry_block body.now) (P.state disk.old).seen) }
         ensures grows { OnOk result (GrowsBy (length body.now) self.old self.new) }
 
         // At each moment it counts as a whole or not at all.
-        ensures moments { P.told → Moments (LeftAt (P.state disk.old)) (LeftAt (P.state disk.new)) beat.old (IsBeforeOrAfter (P.state disk.old).seen body.now) }
+        ensures moments { P.told → Moments (LeftAt (P.state disk.old)) (LeftAt (P.state disk.new)) beat.old
+            (IsBeforeOrAfter (P.state disk.old).seen body.now) }
 
         // What it answers otherwise, and when.
-        ensures full { IfFull result (λ len. (len ≡ length_of self.old) × (2 ^ 30 < length_of self.old + 5 + length body.now)) }
-        ensures fits { 2 ^ 30 < length_of self.old + 5 + length body.now → result ≡ Err (JournalFault.Full (length_of self.old)) }
+        ensures full { IfFull result
+            (λ len. (len ≡ length_of self.old) × (2 ^ 30 < length_of self.old + 5 + length body.now)) }
+        ensures fits { 2 ^ 30 < length_of self.old + 5 + length body.now
+            → result ≡ Err (JournalFault.Full (length_of self.old)) }
         ensures prepared { 0 < self.old.spare → length body.now ≤ self.old.room → OnNoMemory result ⊥ }
         ensures cause { OnDisk result (Rose (P.faults disk.old) (P.faults disk.new)) }
         ensures unfit { IfUnfit result (λ _. ⊥) }
@@ -196,7 +204,8 @@ impl Journal {
         }
     }
 
-    /// Puts the body of an entry, counted from 0, into the vector in place of what it held.
+    /// Puts the body of an entry, counted from 0, into the vector in place of what it held. At an `Err` nothing is said of
+    /// what the vector holds.
     pub fn entry<P: Disk>(
         &mut self,
         disk: &mut P,
@@ -205,7 +214,8 @@ impl Journal {
     ) -> Result<(), JournalFault>
         requires below { i < length self.old.places }
         requires at { P.told → IsAt self.old (P.state disk.old) }
-        ensures body { P.told → OnOk result (IfOk (list_of (P.state disk.old).seen) (λ bodies. slice_get bodies i ≡ Some into.new.items)) }
+        ensures body { P.told → OnOk result
+            (IfOk (list_of (P.state disk.old).seen) (λ bodies. slice_get bodies i ≡ Some into.new.items)) }
         ensures same { P.told → P.state disk.new ≡ P.state disk.old }
         ensures kept { KeepsList self.old self.new }
         ensures sound { self.new.sound ≡ sound_after result self.old.sound }

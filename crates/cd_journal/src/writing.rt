@@ -35,7 +35,8 @@ pub fn put<P: Disk>(disk: &mut P, gate: u32, block: &[u8], beat: &mut Beat) -> R
     requires order { P.told → last_of (P.state disk.old).calls ≤ beat.old }
     requires rests { P.told → (P.state disk.old).doubt ≡ settled (P.state disk.old).seen }
     ensures done { P.told → OnOk result (IsSettledAs (opened gate block.now (P.state disk.old).seen) (P.state disk.new)) }
-    ensures moments { P.told → Moments (LeftAt (P.state disk.old)) (LeftAt (P.state disk.new)) beat.old (IsTornEntry gate block.now (P.state disk.old).seen) }
+    ensures moments { P.told → Moments (LeftAt (P.state disk.old)) (LeftAt (P.state disk.new)) beat.old
+        (IsTornEntry gate block.now (P.state disk.old).seen) }
     ensures order { P.told → last_of (P.state disk.new).calls ≤ beat.new }
     ensures beat { beat.old ≤ beat.new }
     ensures later { P.faults disk.old ≤ P.faults disk.new }
