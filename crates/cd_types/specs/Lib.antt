@@ -1,1 +1,9 @@
+pub mod Format
 pub mod Moment
+pub mod NodeName
+pub mod NodeNameLaw
+pub mod Number
+pub mod NumberLaw
+pub mod Short
+pub mod Text
+pub mod TextLaw

@@ -1,0 +1,4 @@
+pub mod Contents
+pub mod Images
+pub mod Runs
+mod Writes

@@ -1,0 +1,15 @@
+//! The outside world as the node sees it: traits whose ghost members say what a device holds, what a crash may leave of
+//! it, and how often it has failed. Code above is generic over them.
+#![tactic(auto)]
+
+mod beat;
+mod disk;
+mod failed;
+mod streams;
+mod through;
+
+pub use beat::Beat;
+pub use disk::Disk;
+pub use failed::Failed;
+pub use streams::{Clock, Sink, Source};
+pub use through::{sync_now, write_through};
