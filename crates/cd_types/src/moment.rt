@@ -1,6 +1,10 @@
-ghost use Rattle.std.specs.Prelude.{◌≡◌, ◌<◌, ◌^◌, ◌↔◌, IsSome, IfSome};
-ghost use Rattle.cd_types.specs.Moment.{IsMoment};
+ghost use Rattle.std.specs.Prelude.{◌≡◌, ◌↔◌, ⊤, min, IsSome, IfSome};
+ghost use Rattle.byteorder.specs.Endian.{big_bytes};
+ghost use Rattle.cd_types.specs.Moment.{is_moment, IsMoment};
+ghost use Rattle.cd_types.specs.MomentLaw.{moment_law};
+ghost use Rattle.cd_types.specs.Text.{ranged_in};
 
+use crate::Field;
 use std::marker::Model;
 
 /// A moment, in seconds. Contracts see it as that number, from 0 to 249,999,999,999.
@@ -35,11 +39,46 @@ impl Moment {
         }
     }
 
+    /// That moment, or the last one where it lies behind that.
+    pub fn latest(seconds: u64) -> Self
+        ensures { result ≡ min seconds 249999999999 }
+    {
+        Moment {
+            seconds: seconds.min(249_999_999_999),
+        }
+    }
+
     /// Its number of seconds.
     pub fn seconds(self) -> u64
         ensures value { result ≡ self }
         ensures form { IsMoment self }
     {
         self.seconds
+    }
+}
+
+/// Eight bytes.
+impl Field for Moment {
+    ghost form = { IsMoment };
+
+    ghost writable = { λ _. ⊤ };
+
+    ghost spelled = { big_bytes 8 };
+
+    ghost found_in = { ranged_in 8 is_moment };
+
+    ghost law = { moment_law };
+
+    fn front(bytes: &[u8]) -> Option<(Moment, &[u8])> {
+        let (seconds, rest) = u64::front(bytes)?;
+        Some((Moment::new(seconds)?, rest))
+    }
+
+    fn size(&self) -> usize {
+        self.seconds().size()
+    }
+
+    fn put(&self, into: &mut Vec<u8>) {
+        self.seconds().put(into);
     }
 }

@@ -1,0 +1,8 @@
+//! The program `cdnode`.
+#![tactic(auto)]
+
+mod clock;
+mod disk;
+mod streams;
+
+fn main() {}
