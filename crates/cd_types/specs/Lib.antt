@@ -16,3 +16,4 @@ pub mod ProcNoLaw
 pub mod Short
 pub mod Text
 pub mod TextLaw
+pub mod Symbols

@@ -10,6 +10,7 @@ mod node_name;
 mod number;
 mod proc_no;
 mod short;
+mod symbols;
 
 pub use choices::{Cause, Disp, Hold, Queue, Reason, Relation, Retain, Side, TaskKind};
 pub use field::Field;
@@ -18,3 +19,4 @@ pub use memory::NoMemory;
 pub use moment::Moment;
 pub use node_name::NodeName;
 pub use proc_no::ProcNo;
+pub use symbols::Symbols;
