@@ -10,7 +10,7 @@ pieces_after-skip zero before bs = refl
 pieces_after-skip (suc n) before [] = refl
 pieces_after-skip (suc n) before (b ∷ bs) = pieces_after-skip n before bs
 
-drop-one_less : (n b : ℕ) (bs : List ℕ) → 0 < n → drop (n - 1) bs ≡ drop n (b ∷ bs)
+pub drop-one_less : (n b : ℕ) (bs : List ℕ) → 0 < n → drop (n - 1) bs ≡ drop n (b ∷ bs)
 drop-one_less zero b bs h = absurd (omega arith)
 drop-one_less (suc n) b bs h = let e : (suc n - 1 ≡ n) = omega arith in rw e refl
 

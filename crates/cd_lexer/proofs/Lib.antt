@@ -1,3 +1,6 @@
 mod Cuts
+mod Parts
+mod Put
 mod Runs
 mod Scan
+mod Whole

@@ -1,8 +1,12 @@
 -- When each fault comes.
-use Rattle.std.specs.Prelude.{◌≡◌, ℕ, ◌<◌, ◌≤◌, List, length, Option, Some}
+use Rattle.std.specs.Prelude.{◌≡◌, ℕ, ◌<◌, ◌≤◌, List, length, Option, Some, Err, IsOkAnd, ◌⊎◌}
 use Rattle.cd_ast.specs.declared.fault.FaultName.{FaultName}
 use Rattle.cd_ast.specs.declared.fault.FaultName.TheVariants as names
+use Rattle.cd_ast.specs.Subst.{subst}
 use Rattle.cd_ast.specs.Tokens.{flaw_of}
+use Rattle.cd_lexer.specs.Output.{longest_text}
+use Rattle.cd_lexer.specs.declared.fault.SymFault.{SymFault}
+use Rattle.cd_lexer.specs.declared.fault.SymFault.TheVariants as syms
 use Rattle.cd_lexer.specs.declared.fault.LexFault.{LexFault}
 use Rattle.cd_lexer.specs.declared.fault.LexFault.TheVariants.{BadByte, OpenQuote, OpenComment, TooLong, NoMemory}
 
@@ -25,3 +29,11 @@ IsLexFault text (BadByte at) = (length text ≤ longest_plain) × IsNamed (BadBy
 IsLexFault text (OpenQuote at) = (length text ≤ longest_plain) × IsNamed (OpenQuote at) (flaw_of text)
 IsLexFault text (OpenComment at) = (length text ≤ longest_plain) × IsNamed (OpenComment at) (flaw_of text)
 IsLexFault text NoMemory = Unit {0}
+
+-- when each fault of substitution comes: the length of the text as given goes first, and that of what it becomes last
+abbrev pub IsSymFault : List ℕ → List (List ℕ × List ℕ) → SymFault → Type 0
+IsSymFault text symbols (syms.Unresolved at) = (length text ≤ longest_text) × (subst text symbols ≡ Err at)
+IsSymFault text symbols (syms.TooLong len) =
+    ((longest_text < length text) × (len ≡ length text))
+    ⊎ ((length text ≤ longest_text) × IsOkAnd (subst text symbols) (λ out. (longest_text < length out) × (len ≡ length out)))
+IsSymFault text symbols syms.NoMemory = Unit {0}

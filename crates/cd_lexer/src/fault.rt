@@ -1,7 +1,8 @@
 ghost use Rattle.std.specs.Prelude.{◌≡◌};
 ghost use Rattle.cd_lexer.specs.declared.fault.LexFault.TheVariants.{NoMemory};
+ghost use Rattle.cd_lexer.specs.declared.fault.SymFault.TheVariants as sym;
 
-use std::alloc::AllocFailed;
+use std::alloc::{AllocError, AllocFailed};
 use thiserror::Error;
 
 /// Why a text isn't cut into tokens. Places count its bytes from 0.
@@ -30,5 +31,27 @@ impl<T: Drop> From<AllocFailed<T>> for LexFault {
 
     fn from(_: AllocFailed<T>) -> Self {
         LexFault::NoMemory
+    }
+}
+
+/// Why the references of a text aren't replaced.
+#[derive(Debug, Drop, Error)]
+pub enum SymFault {
+    /// The first reference without a value; this is the place of its `&` in the text as given.
+    #[error("no value for the name at {0}")]
+    Unresolved(u64),
+    /// The text, or what it becomes, is longer than 65,536 bytes; this is that length.
+    #[error("a text of {0} bytes")]
+    TooLong(u64),
+    /// Memory ran out.
+    #[error("out of memory")]
+    NoMemory,
+}
+
+impl From<AllocError> for SymFault {
+    ghost from_gives = { λ _ e. e ≡ sym.NoMemory };
+
+    fn from(_: AllocError) -> Self {
+        SymFault::NoMemory
     }
 }

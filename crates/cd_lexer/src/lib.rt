@@ -3,9 +3,13 @@
 
 mod bytes;
 mod fault;
+mod output;
+mod part;
 mod piece;
 mod run;
+mod subst;
 mod token;
 
-pub use fault::LexFault;
-pub use token::{Token, TokenKind};
+pub use fault::{LexFault, SymFault};
+pub use subst::substitute;
+pub use token::{Token, TokenKind, tokens};

@@ -2,6 +2,7 @@
 ghost use Rattle.std.specs.Prelude.{◌≡◌, ℕ, List, Bool, ◌≤◌, length};
 ghost use Rattle.cd_ast.specs.Bytes.{closes_comment};
 ghost use Rattle.cd_ast.specs.Pieces.{run_len, ends_line, ends_quote, ends_word};
+ghost use Rattle.cd_ast.specs.Subst.{ends_name, ends_plain};
 ghost use Rattle.cd_ast.specs.Tokens.{ends_good};
 
 use crate::bytes::{closes_comment, is_refused, is_word_byte, opens_comment};
@@ -34,6 +35,14 @@ pub(crate) struct WordEnd;
 /// A text's good bytes end before one that no text may have.
 #[derive(Clone, Copy)]
 pub(crate) struct GoodEnd;
+
+/// A name ends before what is neither a letter nor a digit.
+#[derive(Clone, Copy)]
+pub(crate) struct NameEnd;
+
+/// Plain text ends before an `&`.
+#[derive(Clone, Copy)]
+pub(crate) struct PlainEnd;
 
 impl End for LineEnd {
     ghost stops = { λ _. ends_line };
@@ -76,6 +85,24 @@ impl End for GoodEnd {
     #[tactic(auto, unfolding(cd_ast::specs::Tokens::ends_good))]
     fn stops(&self, byte: u8, _after: &[u8]) -> bool {
         is_refused(byte)
+    }
+}
+
+impl End for NameEnd {
+    ghost stops = { λ _. ends_name };
+
+    #[tactic(auto, unfolding(cd_ast::specs::Subst::ends_name))]
+    fn stops(&self, byte: u8, _after: &[u8]) -> bool {
+        !byte.is_ascii_alphanumeric()
+    }
+}
+
+impl End for PlainEnd {
+    ghost stops = { λ _. ends_plain };
+
+    #[tactic(auto, unfolding(cd_ast::specs::Subst::ends_plain))]
+    fn stops(&self, byte: u8, _after: &[u8]) -> bool {
+        byte == b'&'
     }
 }
 
