@@ -1,4 +1,5 @@
 mod Cuts
+mod Definitions
 mod Parts
 mod Put
 mod Runs

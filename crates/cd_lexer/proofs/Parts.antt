@@ -1,6 +1,6 @@
 -- The parts of bytes, from the first one on.
-use Rattle.std.proofs.Common.{◌≡◌, ℕ, zero, suc, ◌+◌, ◌-◌, ◌<◌, Bool, true, false, List, [], ◌∷◌, ◌++◌, length, take, drop, Option, refl, ap, ◌∙◌, sym, arith}
-use Rattle.cd_ast.specs.Subst.{part_at, parts_after, Part}
+use Rattle.std.proofs.Common.{◌≡◌, ℕ, zero, suc, ◌-◌, ◌<◌, Bool, List, [], ◌∷◌, take, drop, Option, refl}
+use Rattle.cd_ast.specs.Subst.{part_at, parts_after}
 use Rattle.cd_lexer.proofs.Cuts.{drop-one_less}
 
 -- skipped bytes are in no part

@@ -1,7 +1,7 @@
 -- Steps of substitution.
 use Rattle.std.proofs.Common.{◌≡◌, ℕ, ◌+◌, ◌<◌, ◌≤◌, Bool, true, false, ◌&&◌, List, [], ◌∷◌, ◌++◌, length, Option, Some, None, Result, Ok, Err, refl, ap, ◌∙◌, sym, arith, append_assoc, append-nil, add_assoc, add-zero, inr, OnOk, length-append}
 use Rattle.cd_ast.specs.declared.piece.PieceKind.{PieceKind}
-use Rattle.cd_ast.specs.Pieces.{Piece, pieces_after, bytes_of}
+use Rattle.cd_ast.specs.Pieces.{pieces_after}
 use Rattle.cd_ast.specs.Subst.{Part, parts_after, piece_parts, parts_of, is_read, is_word, begins_with, given_for, before_all, substituted, subst}
 use Rattle.cd_lexer.specs.declared.output.Output.{Output}
 use Rattle.cd_lexer.specs.declared.fault.SymFault.{SymFault}

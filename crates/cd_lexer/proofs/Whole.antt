@@ -1,13 +1,13 @@
 -- Pieces and parts make up what they are cut from.
-use Rattle.std.proofs.Common.{◌≡◌, ℕ, zero, suc, ◌+◌, ◌-◌, ◌<◌, Bool, true, false, ◌&&◌, List, [], ◌∷◌, ◌++◌, length, take, drop, Option, refl, ap, ◌∙◌, sym, arith}
-use Rattle.std.specs.Prelude.{if◌then◌else◌, nat_lt, ◌==◌}
+use Rattle.std.proofs.Common.{◌≡◌, ℕ, zero, suc, ◌+◌, ◌-◌, ◌<◌, Bool, true, false, ◌&&◌, List, [], ◌∷◌, ◌++◌, take, drop, Option, ap, ◌∙◌, sym, arith}
+use Rattle.std.specs.Prelude.{if◌then◌else◌, ◌==◌}
 use Rattle.std.proofs.Math.Seq.{drop-nil}
 use Rattle.std.proofs.lemmas.List.{take-append-drop}
 use Rattle.cd_ast.specs.declared.piece.PieceKind.{PieceKind}
 use Rattle.cd_ast.specs.declared.piece.PieceKind.TheVariants.{LineEnd, Blank, Comment, Sign, Stray}
-use Rattle.cd_ast.specs.Bytes.{is_blank, is_quote, is_sign_byte, is_double_sign, opens_comment, closes_comment}
-use Rattle.cd_ast.specs.Pieces.{run_len, ends_line, ends_quote, ends_word, is_line_end, comment_at, quote_at, sign_at, word_at, piece_at, pieces_after, bytes_of, Piece}
-use Rattle.cd_ast.specs.Subst.{ends_name, ends_plain, part_at, reference_at, parts_after, Part}
+use Rattle.cd_ast.specs.Bytes.{is_blank, is_quote, is_sign_byte, is_double_sign, opens_comment}
+use Rattle.cd_ast.specs.Pieces.{run_len, ends_line, is_line_end, comment_at, quote_at, sign_at, word_at, piece_at, pieces_after, bytes_of}
+use Rattle.cd_ast.specs.Subst.{ends_name, part_at, reference_at, parts_after, Part}
 use Rattle.cd_lexer.proofs.Cuts.{drop-one_less}
 
 -- a choice has the length of what is chosen

@@ -1,5 +1,5 @@
 -- What is put out by substitution.
-use Rattle.std.specs.Prelude.{◌≡◌, ℕ, ◌≤◌, List, [], ◌++◌, length, Option, Some, Result, Ok, Err}
+use Rattle.std.specs.Prelude.{◌≡◌, ℕ, ◌≤◌, List, ◌++◌, length, Some, Result, Err}
 use Rattle.cd_ast.specs.Subst.{before_all}
 use Rattle.cd_lexer.specs.declared.output.Output.{Output}
 use Rattle.cd_lexer.specs.declared.fault.SymFault.{SymFault}

@@ -3,6 +3,7 @@
 
 mod bytes;
 mod fault;
+mod given;
 mod output;
 mod part;
 mod piece;
@@ -11,5 +12,6 @@ mod subst;
 mod token;
 
 pub use fault::{LexFault, SymFault};
+pub use given::defaults;
 pub use subst::substitute;
 pub use token::{Token, TokenKind, tokens};

@@ -47,7 +47,7 @@ fn is_rest_blank(bytes: &[u8]) -> bool
 }
 
 /// Whether what follows a piece touches no token.
-fn is_gap(kind: PieceKind) -> bool
+pub(crate) fn is_gap(kind: PieceKind) -> bool
     ensures { result ≡ is_gap kind }
 {
     matches!(

@@ -1,5 +1,5 @@
 use Rattle.std.proofs.Common.{length, ap, arith, length-append}
-use Rattle.cd_lexer.proofs.Put.{reached-piece, reached-end, piece_fault, too_long, stands_all}
+use Rattle.cd_lexer.proofs.Put.{reached-piece, piece_fault, too_long, stands_all}
 use Rattle.cd_lexer.proofs.subst.substitute.Goals as goal
 
 pub returns-in-Err-clause-fault : goal.returns-in-Err-clause-fault
