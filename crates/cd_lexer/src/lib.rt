@@ -15,3 +15,6 @@ pub use fault::{LexFault, SymFault};
 pub use given::defaults;
 pub use subst::substitute;
 pub use token::{Token, TokenKind, tokens};
+
+#[cfg(test)]
+mod tests;
