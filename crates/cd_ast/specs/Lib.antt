@@ -1,5 +1,6 @@
 pub mod Bytes
-pub mod Pieces
-pub mod Tokens
-pub mod Subst
 pub mod Defaults
+pub mod Laws
+pub mod Pieces
+pub mod Subst
+pub mod Tokens

@@ -1,13 +1,12 @@
 -- Words between blanks.
-use Rattle.std.specs.Prelude.{◌≡◌, ℕ, List, [], ◌∷◌, length, take, drop, position, Bool, not, ◌&&◌, ◌==◌, if◌then◌else◌, unwrap_or, Option, Some, None, is_none}
-use Rattle.std.specs.List.{starts_with}
-use Rattle.std.specs.Prelude.{nat_eq}
+use Rattle.std.specs.Prelude.{◌≡◌, ℕ, List, [], ◌∷◌, length, take, drop, Bool, not, ◌==◌, if◌then◌else◌, nat_eq, Option, Some, None}
+use Rattle.std.specs.List.{position_or_len, starts_with}
 use Rattle.cd_types.specs.Format.{◌>>=◌}
 use Rattle.cd_cli.specs.Input.{is_blank}
 
 -- the place of the first byte that passes the test, or the end
 abbrev pub first_place : (ℕ → Bool) → List ℕ → ℕ
-first_place test bytes = unwrap_or (position test bytes) (length bytes)
+first_place test bytes = position_or_len test bytes
 
 -- the bytes behind the blanks at the front
 abbrev pub unblanked : List ℕ → List ℕ

@@ -1,6 +1,9 @@
 //! The top call: commands in, replies out, entries into the journal.
 #![tactic(auto)]
 
+mod canonical;
 mod input;
+mod plain;
+mod reply;
 mod scanner;
 mod words;

@@ -1,5 +1,6 @@
 mod Cuts
 mod Definitions
+mod Laws
 mod Parts
 mod Put
 mod Runs

@@ -4,6 +4,7 @@
 mod bytes;
 mod fault;
 mod given;
+mod law;
 mod output;
 mod part;
 mod piece;
@@ -13,6 +14,7 @@ mod token;
 
 pub use fault::{LexFault, SymFault};
 pub use given::defaults;
+pub use law::{law_of_substitution, law_of_tokens};
 pub use subst::substitute;
 pub use token::{Token, TokenKind, tokens};
 

@@ -12,6 +12,8 @@ use Rattle.cd_types.specs.declared.choices.Cause.{Cause}
 use Rattle.cd_types.specs.declared.choices.Cause.TheVariants as cause
 use Rattle.cd_types.specs.declared.choices.Disp.{Disp}
 use Rattle.cd_types.specs.declared.choices.Disp.TheVariants as disp
+use Rattle.cd_types.specs.declared.choices.How.{How}
+use Rattle.cd_types.specs.declared.choices.How.TheVariants as how
 use Rattle.cd_types.specs.declared.choices.TaskKind.{TaskKind}
 use Rattle.cd_types.specs.declared.choices.TaskKind.TheVariants as task_kind
 
@@ -106,3 +108,12 @@ abbrev pub task_kind_code : TaskKind → ℕ
 task_kind_code task_kind.Restart = 0
 task_kind_code task_kind.Once = 1
 task_kind_code task_kind.Job = 2
+
+-- the ways in which a Process ends
+abbrev pub hows : List How
+hows = how.Finished ∷ how.Deleted ∷ how.Flushed ∷ []
+
+abbrev pub how_code : How → ℕ
+how_code how.Finished = 0
+how_code how.Deleted = 1
+how_code how.Flushed = 2

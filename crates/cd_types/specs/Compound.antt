@@ -1,8 +1,7 @@
 -- Fields that are made of others.
-use Rattle.std.specs.Prelude.{◌≡◌, ℕ, ◌++◌, List, [], ◌∷◌, Bool, true, false, Option, Some, None, if◌then◌else◌, slice_get}
-use Rattle.byteorder.specs.Endian.{big_bytes}
+use Rattle.std.specs.Prelude.{ℕ, ◌++◌, List, [], ◌∷◌, Bool, true, false, Option, Some, None, if◌then◌else◌, slice_get}
 use Rattle.cd_types.specs.Format.{◌>>=◌, found_as}
-use Rattle.cd_types.specs.Number.{number_in}
+use Rattle.cd_types.specs.Number.{number_in, number_bytes}
 
 -- one field, and another one behind it
 abbrev pub both_bytes : {A B : Type 0} → (A → List ℕ) → (B → List ℕ) → A × B → List ℕ
@@ -31,19 +30,31 @@ tested_in test field bytes = do
   if test x.0 then Some x else None
 
 -- one byte, which is the place of the value in a list of all values
-abbrev pub choice_in : {A : Type 0} → List A → List ℕ → Option (A × List ℕ)
+unfoldable pub choice_in : {A : Type 0} → List A → List ℕ → Option (A × List ℕ)
 choice_in values = seen_in (slice_get values) (number_in 1)
+
+-- no and yes, and their bytes
+abbrev pub flags : List Bool
+flags = false ∷ true ∷ []
+
+abbrev pub flag : Bool → ℕ
+flag false = 0
+flag true = 1
 
 -- a byte 0, or a byte 1 and the field
 abbrev pub optional_bytes : {A : Type 0} → (A → List ℕ) → Option A → List ℕ
-optional_bytes field None = big_bytes 1 0
-optional_bytes field (Some x) = big_bytes 1 1 ++ field x
+optional_bytes field None = number_bytes 1 0
+optional_bytes field (Some x) = number_bytes 1 1 ++ field x
 
-abbrev pub optional_in : {A : Type 0} → (List ℕ → Option (A × List ℕ)) → List ℕ → Option (Option A × List ℕ)
+unfoldable pub optional_in : {A : Type 0} → (List ℕ → Option (A × List ℕ)) → List ℕ → Option (Option A × List ℕ)
 optional_in field bytes = do
-  there ← choice_in (false ∷ true ∷ []) bytes
+  there ← choice_in flags bytes
   if there.0 then found_as Some (field there.1) else Some (None, there.1)
 
 abbrev pub IsOptional : {A : Type 0} → (A → Type 0) → Option A → Type 0
 IsOptional Form None = Unit {0}
 IsOptional Form (Some x) = Form x
+
+-- fields one behind another, seen as a value that is made of them
+abbrev pub made_in : {A B : Type 0} → (A → B) → (List ℕ → Option (A × List ℕ)) → List ℕ → Option (B × List ℕ)
+made_in make = seen_in (λ x. Some (make x))

@@ -1,13 +1,12 @@
 -- The laws of fields that are made of others.
-use Rattle.std.proofs.Common.{◌≡◌, ℕ, zero, suc, ◌+◌, ◌^◌, ◌<◌, Bool, true, false, cond, List, [], ◌∷◌, ◌++◌, length, map, get_or, Option, Some, None, refl, sym, ap, subst, ◌∙◌, arith, append_assoc}
+use Rattle.std.proofs.Common.{◌≡◌, ℕ, zero, suc, ◌+◌, ◌<◌, Bool, true, false, cond, List, [], ◌∷◌, ◌++◌, length, map, Option, Some, None, refl, sym, ap, subst, ◌∙◌, arith, append_assoc}
 use Rattle.std.specs.Prelude.{IsTrue, slice_get}
 use Rattle.std.proofs.lemmas.List.{get_or-append-add}
-use Rattle.byteorder.specs.Endian.{big_bytes}
-use Rattle.cd_types.specs.Format.{◌>>=◌, found_as, IsBytes, IsFormat}
-use Rattle.cd_types.specs.Number.{IsNumber, number_in}
+use Rattle.cd_types.specs.Format.{found_as, IsBytes, IsFormat}
+use Rattle.cd_types.specs.Number.{IsNumber, number_in, number_bytes}
 use Rattle.cd_types.specs.NumberLaw.{number_law}
 use Rattle.cd_types.specs.TextLaw.{bind_some, passed}
-use Rattle.cd_types.specs.Compound.{both_bytes, both_in, AreBoth, seen_in, tested_in, choice_in, optional_bytes, optional_in, IsOptional}
+use Rattle.cd_types.specs.Compound.{both_bytes, both_in, AreBoth, seen_in, made_in, tested_in, choice_in, flag, flags, optional_bytes, optional_in, IsOptional}
 
 -- the end of bytes is bytes
 pub IsBytes-after : (front rest : List ℕ) → IsBytes (front ++ rest) → IsBytes rest
@@ -90,8 +89,9 @@ place_is code (y ∷ values) n (suc k) x counted e = omega (arith, place_is code
 
 module _ {A : Type 0} (code : A → ℕ) (values : List A) where
   -- each value stands in the list at its code, a byte, and nothing else does
-  pub choice_law : AreCounted 0 (map code values) → ((x : A) → (code x < 256) × (slice_get values (code x) ≡ Some x)) → IsFormat (λ (x : A). Unit {0}) (λ x. big_bytes 1 (code x)) (choice_in values)
-  choice_law counted listed = seen_law (IsNumber 1) (big_bytes 1) (number_in 1) (λ (x : A). Unit {0}) code (slice_get values)
+  pub choice_law : AreCounted 0 (map code values) → ((x : A) → (code x < 256) × (slice_get values (code x) ≡ Some x)) → IsFormat (λ (x : A). Unit {0}) (λ x. number_bytes 1 (code x)) (choice_in values)
+  unfolding choice_in
+  choice_law counted listed = seen_law (IsNumber 1) (number_bytes 1) (number_in 1) (λ (x : A). Unit {0}) code (slice_get values)
       (record {
         back = λ y form. listed y;
         only = λ k y form e. (omega (arith, place_is code values 0 k y counted e), tt);
@@ -105,25 +105,21 @@ module _ {A : Type 0} (Form Other : A → Type 0) (s : A → List ℕ) (r : List
     only = λ bytes x rest fit e. let found = field.only bytes x rest fit e in (found.0, there x found.1);
   }
 
--- the number of a flag
-abbrev pub flag : Bool → ℕ
-flag false = 0
-flag true = 1
-
-pub flag_law : IsFormat (λ (b : Bool). Unit {0}) (λ b. big_bytes 1 (flag b)) (choice_in (false ∷ true ∷ []))
-flag_law = choice_law flag (false ∷ true ∷ []) (refl, (refl, tt)) (elim [ false ↦ (omega arith, refl) | true ↦ (omega arith, refl) ])
+pub flag_law : IsFormat (λ (b : Bool). Unit {0}) (λ b. number_bytes 1 (flag b)) (choice_in flags)
+flag_law = choice_law flag flags (refl, (refl, tt)) (elim [ false ↦ (omega arith, refl) | true ↦ (omega arith, refl) ])
 
 module _ {A : Type 0} (Form : A → Type 0) (s : A → List ℕ) (r : List ℕ → Option (A × List ℕ)) (field : IsFormat Form s r) where
   optional_again : (x : Option A) (rest : List ℕ) → IsOptional Form x → optional_in r (optional_bytes s x ++ rest) ≡ Some (x, rest)
+  unfolding optional_in
   optional_again None rest form =
-      let there : choice_in (false ∷ true ∷ []) (big_bytes 1 0 ++ rest) ≡ Some (false, rest) = flag_law.again false rest tt in
+      let there : choice_in flags (number_bytes 1 0 ++ rest) ≡ Some (false, rest) = flag_law.again false rest tt in
       rw there refl
   optional_again (Some x) rest form =
-      let there : choice_in (false ∷ true ∷ []) (big_bytes 1 1 ++ (s x ++ rest)) ≡ Some (true, s x ++ rest) = flag_law.again true (s x ++ rest) tt in
+      let there : choice_in flags (number_bytes 1 1 ++ (s x ++ rest)) ≡ Some (true, s x ++ rest) = flag_law.again true (s x ++ rest) tt in
       let read : r (s x ++ rest) ≡ Some (x, rest) = field.again x rest form in
-      ap (optional_in r) (append_assoc (big_bytes 1 1) (s x) rest) ∙ rw (there, read) refl
+      ap (optional_in r) (append_assoc (number_bytes 1 1) (s x) rest) ∙ rw (there, read) refl
 
-  flagged : (bytes rest : List ℕ) (b : Bool) (x : Option A) (after : List ℕ) → IsBytes rest → bytes ≡ big_bytes 1 (flag b) ++ rest
+  flagged : (bytes rest : List ℕ) (b : Bool) (x : Option A) (after : List ℕ) → IsBytes rest → bytes ≡ number_bytes 1 (flag b) ++ rest
       → cond b (found_as Some (r rest)) (Some (None, rest)) ≡ Some (x, after) → (bytes ≡ optional_bytes s x ++ after) × IsOptional Form x
   flagged bytes rest false x after fit whole e =
       let found = some_same (None, rest) (x, after) e in
@@ -139,14 +135,26 @@ module _ {A : Type 0} (Form : A → Type 0) (s : A → List ℕ) (r : List ℕ �
           let x_is : Some y.0 ≡ x = ap (λ (p : Option A × List ℕ). p.0) same in
           let rest_is : y.1 ≡ after = ap (λ (p : Option A × List ℕ). p.1) same in
           let front = field.only rest y.0 y.1 fit is in
-          let made : bytes ≡ optional_bytes s (Some y.0) ++ y.1 = whole ∙ ap (λ (more : List ℕ). big_bytes 1 1 ++ more) front.0 ∙ sym (append_assoc (big_bytes 1 1) (s y.0) y.1) in
+          let made : bytes ≡ optional_bytes s (Some y.0) ++ y.1 = whole ∙ ap (λ (more : List ℕ). number_bytes 1 1 ++ more) front.0 ∙ sym (append_assoc (number_bytes 1 1) (s y.0) y.1) in
           (made ∙ (λ i. optional_bytes s (x_is i) ++ rest_is i), subst (IsOptional Form) x_is front.1)
 
   pub optional_law : IsFormat (IsOptional Form) (optional_bytes s) (optional_in r)
+  unfolding optional_in
   optional_law = record {
     again = optional_again;
     only = λ bytes x rest fit e.
-        let a = bind_some (choice_in (false ∷ true ∷ []) bytes) _ (x, rest) e in
+        let a = bind_some (choice_in flags bytes) _ (x, rest) e in
         let front = flag_law.only bytes a.0.0 a.0.1 fit a.1 in
-        flagged bytes a.0.1 a.0.0 x rest (IsBytes-after (big_bytes 1 (flag a.0.0)) a.0.1 (subst IsBytes front.0 fit)) front.0 a.2;
+        flagged bytes a.0.1 a.0.0 x rest (IsBytes-after (number_bytes 1 (flag a.0.0)) a.0.1 (subst IsBytes front.0 fit)) front.0 a.2;
   }
+
+module _ {A B : Type 0} (Form : A → Type 0) (s : A → List ℕ) (r : List ℕ → Option (A × List ℕ)) (parts : B → A) (make : A → B) where
+  -- where the value and its parts determine each other
+  pub made_law : ((x : A) → parts (make x) ≡ x) → ((y : B) → make (parts y) ≡ y) → IsFormat Form s r → IsFormat (λ y. Form (parts y)) (λ y. s (parts y)) (made_in make r)
+  made_law apart whole = seen_law Form s r (λ y. Form (parts y)) parts (λ x. Some (make x)) (record {
+    back = λ y form. (form, ap Some (whole y));
+    only = λ x y form e.
+        let y_is = some_same (make x) y e in
+        let x_is : x ≡ parts y = sym (apart x) ∙ ap parts y_is in
+        (x_is, subst Form x_is form);
+  })

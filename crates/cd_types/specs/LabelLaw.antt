@@ -1,5 +1,5 @@
 -- A label is a field.
-use Rattle.std.proofs.Common.{◌≡◌, ℕ, ◌^◌, ◌<◌, ◌≤◌, ◌&&◌, leb, List, length, arith}
+use Rattle.std.proofs.Common.{ℕ, ◌≤◌, ◌&&◌, leb, List, length, arith}
 use Rattle.std.proofs.lemmas.Bool.{leb-true}
 use Rattle.std.specs.Prelude.{not}
 use Rattle.std.specs.List.{list_all}

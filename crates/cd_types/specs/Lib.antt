@@ -2,9 +2,16 @@ pub mod Choices
 pub mod ChoicesLaw
 pub mod Compound
 pub mod CompoundLaw
+pub mod FileName
+pub mod FileNameLaw
+pub mod Filed
+pub mod FiledLaw
 pub mod Format
+pub mod Key
+pub mod KeyLaw
 pub mod Label
 pub mod LabelLaw
+pub mod Layout
 pub mod Moment
 pub mod MomentLaw
 pub mod NodeName

@@ -1,14 +1,14 @@
 -- A number of a fixed width is a field: its bytes are read back, and no other bytes are read so.
-use Rattle.std.proofs.Common.{◌≡◌, ℕ, zero, suc, ◌+◌, ◌*◌, ◌/◌, ◌^◌, ◌<◌, ◌≤◌, Bool, true, false, cond, ltb, List, [], ◌∷◌, ◌++◌, length, get_or, take, drop, Option, Some, None, refl, sym, ap, ◌∙◌, inl, inr, arith, length-append, length-take, take-append-drop}
+use Rattle.std.proofs.Common.{◌≡◌, ℕ, zero, suc, ◌+◌, ◌*◌, ◌/◌, ◌^◌, ◌<◌, ◌≤◌, Bool, true, false, cond, ltb, List, [], ◌∷◌, ◌++◌, length, take, drop, Some, None, refl, sym, ap, ◌∙◌, inl, inr, arith, length-append, length-take, take-append-drop}
 use Rattle.std.proofs.lemmas.Bool.{cases_lt, ltb-false, le-ltb}
 use Rattle.std.proofs.Math.Nat.{mod-lt}
 use Rattle.std.specs.Int.{byte_at}
 use Rattle.std.proofs.lemmas.List.{append-nil, drop_at, get_or-take, get_or_past}
 use Rattle.std.proofs.lemmas.Nat.{div-mul-add}
-use Rattle.byteorder.specs.Endian.{big_bytes, big_number, big_from}
+use Rattle.byteorder.specs.Endian.{big_bytes, big_number}
 use Rattle.byteorder.specs.Numbers.{big_from-cons, big_from-lt, big_from-take, big_number-reads_back, length-bytes_high_first}
 use Rattle.cd_types.specs.Format.{IsBytes, IsFormat}
-use Rattle.cd_types.specs.Number.{IsNumber, number_in}
+use Rattle.cd_types.specs.Number.{IsNumber, number_bytes, number_in}
 
 IsBytes-rest : (b : ℕ) (bytes : List ℕ) → IsBytes (b ∷ bytes) → IsBytes bytes
 IsBytes-rest b bytes h i = h (suc i)
@@ -60,7 +60,12 @@ found_is : {A : Type 0} (b : Bool) (x y : A) → cond b None (Some x) ≡ Some y
 found_is true x y e = absurd cc
 found_is false x y e = (refl, cc)
 
-pub number_law : (n : ℕ) → IsFormat (IsNumber n) (big_bytes n) (number_in n)
+pub number_has_length : (n x : ℕ) → length (number_bytes n x) ≡ n
+unfolding number_bytes
+number_has_length n x = length-bytes_high_first n x
+
+pub number_law : (n : ℕ) → IsFormat (IsNumber n) (number_bytes n) (number_in n)
+unfolding number_bytes number_in
 number_law n = record {
   again = λ x rest fits.
       let long : ltb (length (big_bytes n x ++ rest)) n ≡ false = le-ltb _ _ (omega (arith, length-append (big_bytes n x) rest, length-bytes_high_first n x)) in

@@ -1,5 +1,5 @@
 -- Process numbers.
-use Rattle.std.specs.Prelude.{ℕ, ◌≤◌, Bool, ◌&&◌, nat_le, IsTrue, Option, Some, None, if◌then◌else◌}
+use Rattle.std.specs.Prelude.{ℕ, Bool, ◌&&◌, nat_le, IsTrue, Option, Some, None, if◌then◌else◌}
 
 -- 1 to 99,999
 abbrev pub is_proc_no : ℕ → Bool

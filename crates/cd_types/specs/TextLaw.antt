@@ -1,12 +1,10 @@
 -- The laws of a text behind its length, and of a number in its range.
-use Rattle.std.proofs.Common.{◌≡◌, ℕ, ◌+◌, ◌^◌, ◌<◌, ◌≤◌, Bool, true, false, cond, leb, ◌&&◌, List, [], ◌∷◌, ◌++◌, length, take, drop, Option, Some, None, refl, sym, ap, ◌∙◌, arith, append_assoc, length-append, length-take, take-append-drop}
+use Rattle.std.proofs.Common.{◌≡◌, ℕ, ◌^◌, ◌<◌, ◌≤◌, Bool, true, false, cond, leb, ◌&&◌, List, ◌++◌, length, take, drop, Option, Some, None, refl, sym, ap, ◌∙◌, arith, append_assoc, length-append, length-take, take-append-drop}
 use Rattle.std.specs.Prelude.{IsTrue}
 use Rattle.std.proofs.lemmas.Bool.{leb-true, le-leb}
-use Rattle.std.proofs.lemmas.List.{take_at, drop_at, get_or-drop}
-use Rattle.byteorder.specs.Endian.{big_bytes}
-use Rattle.byteorder.specs.Numbers.{length-bytes_high_first}
-use Rattle.cd_types.specs.Format.{◌>>=◌, IsBytes, IsFormat}
-use Rattle.cd_types.specs.Number.{IsNumber, number_in}
+use Rattle.std.proofs.lemmas.List.{take_at, drop_at}
+use Rattle.cd_types.specs.Format.{◌>>=◌, IsFormat}
+use Rattle.cd_types.specs.Number.{number_in, number_bytes}
 use Rattle.cd_types.specs.NumberLaw.{number_law}
 use Rattle.cd_types.specs.Text.{text_bytes, text_in, ranged_in}
 
@@ -27,10 +25,11 @@ both_true false b e = absurd cc
 
 pub text_law : (n : ℕ) (test : List ℕ → Bool) → ((text : List ℕ) → IsTrue (test text) → length text < 256 ^ n)
     → IsFormat (λ text. IsTrue (test text)) (text_bytes n) (text_in n test)
+unfolding text_bytes text_in
 text_law n test short = record {
   again = λ text rest fits.
-      let joined : text_bytes n text ++ rest ≡ big_bytes n (length text) ++ (text ++ rest) = append_assoc (big_bytes n (length text)) text rest in
-      let len : number_in n (big_bytes n (length text) ++ (text ++ rest)) ≡ Some (length text, text ++ rest) = (number_law n).again (length text) (text ++ rest) (short text fits) in
+      let joined : text_bytes n text ++ rest ≡ number_bytes n (length text) ++ (text ++ rest) = append_assoc (number_bytes n (length text)) text rest in
+      let len : number_in n (number_bytes n (length text) ++ (text ++ rest)) ≡ Some (length text, text ++ rest) = (number_law n).again (length text) (text ++ rest) (short text fits) in
       let long : leb (length text) (length (text ++ rest)) ≡ true = le-leb _ _ (omega (arith, length-append text rest)) in
       let front : take (length text) (text ++ rest) ≡ text = take_at text rest (length text) refl in
       let back : drop (length text) (text ++ rest) ≡ rest = drop_at text rest (length text) refl in
@@ -45,15 +44,16 @@ text_law n test short = record {
       let rest_is : drop len.0.0 len.0.1 ≡ rest = ap (λ (p : List ℕ × List ℕ). p.1) found.1 in
       let size : len.0.0 ≡ length text = omega (arith, length-take len.0.0 len.0.1, ap length text_is) in
       let parts : len.0.1 ≡ text ++ rest = sym (take-append-drop len.0.0 len.0.1) ∙ (λ i. text_is i ++ rest_is i) in
-      let whole : bytes ≡ big_bytes n (length text) ++ (text ++ rest) = number.0 ∙ (λ i. big_bytes n (size i) ++ parts i) in
-      (whole ∙ sym (append_assoc (big_bytes n (length text)) text rest), rw text_is at tests.1);
+      let whole : bytes ≡ number_bytes n (length text) ++ (text ++ rest) = number.0 ∙ (λ i. number_bytes n (size i) ++ parts i) in
+      (whole ∙ sym (append_assoc (number_bytes n (length text)) text rest), rw text_is at tests.1);
 }
 
 pub ranged_law : (n : ℕ) (test : ℕ → Bool) → ((x : ℕ) → IsTrue (test x) → x < 256 ^ n)
-    → IsFormat (λ x. IsTrue (test x)) (big_bytes n) (ranged_in n test)
+    → IsFormat (λ x. IsTrue (test x)) (number_bytes n) (ranged_in n test)
+unfolding ranged_in
 ranged_law n test small = record {
   again = λ x rest fits.
-      let number : number_in n (big_bytes n x ++ rest) ≡ Some (x, rest) = (number_law n).again x rest (small x fits) in
+      let number : number_in n (number_bytes n x ++ rest) ≡ Some (x, rest) = (number_law n).again x rest (small x fits) in
       rw (number, fits) refl;
   only = λ bytes x rest fit e.
       let read = bind_some (number_in n bytes) _ (x, rest) e in
@@ -61,5 +61,5 @@ ranged_law n test small = record {
       let found = passed (test read.0.0) read.0 (x, rest) read.2 in
       let x_is : read.0.0 ≡ x = ap (λ (p : ℕ × List ℕ). p.0) found.1 in
       let rest_is : read.0.1 ≡ rest = ap (λ (p : ℕ × List ℕ). p.1) found.1 in
-      (number.0 ∙ (λ i. big_bytes n (x_is i) ++ rest_is i), rw x_is at found.0);
+      (number.0 ∙ (λ i. number_bytes n (x_is i) ++ rest_is i), rw x_is at found.0);
 }

@@ -1,8 +1,10 @@
 //! Values that are fields of one byte: the place of the value in the list of all values.
+#![tactic(auto, unfolding(crate::specs::Number::number_bytes))]
+
 ghost use Rattle.std.specs.Prelude.{◌≡◌, ⊤, option_map};
-ghost use Rattle.byteorder.specs.Endian.{big_bytes};
-ghost use Rattle.cd_types.specs.Choices.{holds, hold_code, retains, retain_code, queues, queue_code, reasons, reason_code, causes, cause_code, disps, disp_code, task_kinds, task_kind_code};
-ghost use Rattle.cd_types.specs.ChoicesLaw.{hold_law, retain_law, queue_law, reason_law, cause_law, disp_law, task_kind_law};
+ghost use Rattle.cd_types.specs.Number.{number_bytes};
+ghost use Rattle.cd_types.specs.Choices.{holds, hold_code, retains, retain_code, queues, queue_code, reasons, reason_code, causes, cause_code, disps, disp_code, task_kinds, task_kind_code, hows, how_code};
+ghost use Rattle.cd_types.specs.ChoicesLaw.{hold_law, retain_law, queue_law, reason_law, cause_law, disp_law, task_kind_law, how_law};
 ghost use Rattle.cd_types.specs.Compound.{choice_in};
 
 use crate::Field;
@@ -89,6 +91,15 @@ pub enum TaskKind {
     Job,
 }
 
+/// How a Process ended: at its end, deleted from a queue, or flushed while it ran.
+/// (Connect:Direct for UNIX: delete process, flush process.)
+#[derive(Clone, Copy, Debug, PartialEq, Eq)]
+pub enum How {
+    Finished,
+    Deleted,
+    Flushed,
+}
+
 /// The side of a session on which a step runs: the node that submitted the Process, or its partner.
 /// (Process Language Reference: PNODE, SNODE.)
 #[derive(Clone, Copy, Debug, PartialEq, Eq)]
@@ -110,7 +121,8 @@ pub enum Relation {
 }
 
 /// The value whose place in `values` is the byte at the front, and the bytes after it.
-fn choice<'a, T: Copy>(values: &[T], bytes: &'a [u8]) -> Option<(T, &'a [u8])>
+#[tactic(auto, unfolding(crate::specs::Compound::choice_in))]
+pub(crate) fn choice<'a, T: Copy>(values: &[T], bytes: &'a [u8]) -> Option<(T, &'a [u8])>
     ensures { option_map (λ found. (found.0, found.1.now)) result ≡ choice_in values.now bytes.now }
 {
     let (place, rest) = u8::front(bytes)?;
@@ -125,7 +137,9 @@ impl Field for Hold {
 
     ghost writable = { λ _. ⊤ };
 
-    ghost spelled = { λ hold. big_bytes 1 (hold_code hold) };
+    ghost longest = { 1 };
+
+    ghost spelled = { λ hold. number_bytes 1 (hold_code hold) };
 
     ghost found_in = { choice_in holds };
 
@@ -151,7 +165,9 @@ impl Field for Retain {
 
     ghost writable = { λ _. ⊤ };
 
-    ghost spelled = { λ retain. big_bytes 1 (retain_code retain) };
+    ghost longest = { 1 };
+
+    ghost spelled = { λ retain. number_bytes 1 (retain_code retain) };
 
     ghost found_in = { choice_in retains };
 
@@ -177,7 +193,9 @@ impl Field for Queue {
 
     ghost writable = { λ _. ⊤ };
 
-    ghost spelled = { λ queue. big_bytes 1 (queue_code queue) };
+    ghost longest = { 1 };
+
+    ghost spelled = { λ queue. number_bytes 1 (queue_code queue) };
 
     ghost found_in = { choice_in queues };
 
@@ -214,7 +232,9 @@ impl Field for Reason {
 
     ghost writable = { λ _. ⊤ };
 
-    ghost spelled = { λ reason. big_bytes 1 (reason_code reason) };
+    ghost longest = { 1 };
+
+    ghost spelled = { λ reason. number_bytes 1 (reason_code reason) };
 
     ghost found_in = { choice_in reasons };
 
@@ -258,7 +278,9 @@ impl Field for Cause {
 
     ghost writable = { λ _. ⊤ };
 
-    ghost spelled = { λ cause. big_bytes 1 (cause_code cause) };
+    ghost longest = { 1 };
+
+    ghost spelled = { λ cause. number_bytes 1 (cause_code cause) };
 
     ghost found_in = { choice_in causes };
 
@@ -284,7 +306,9 @@ impl Field for Disp {
 
     ghost writable = { λ _. ⊤ };
 
-    ghost spelled = { λ disp. big_bytes 1 (disp_code disp) };
+    ghost longest = { 1 };
+
+    ghost spelled = { λ disp. number_bytes 1 (disp_code disp) };
 
     ghost found_in = { choice_in disps };
 
@@ -310,7 +334,9 @@ impl Field for TaskKind {
 
     ghost writable = { λ _. ⊤ };
 
-    ghost spelled = { λ task_kind. big_bytes 1 (task_kind_code task_kind) };
+    ghost longest = { 1 };
+
+    ghost spelled = { λ task_kind. number_bytes 1 (task_kind_code task_kind) };
 
     ghost found_in = { choice_in task_kinds };
 
@@ -318,6 +344,34 @@ impl Field for TaskKind {
 
     fn front(bytes: &[u8]) -> Option<(TaskKind, &[u8])> {
         choice(&TASK_KINDS, bytes)
+    }
+
+    fn size(&self) -> usize {
+        1
+    }
+
+    fn put(&self, into: &mut Vec<u8>) {
+        (*self as u8).put(into);
+    }
+}
+
+const HOWS: [How; 3] = [How::Finished, How::Deleted, How::Flushed];
+
+impl Field for How {
+    ghost form = { λ _. ⊤ };
+
+    ghost writable = { λ _. ⊤ };
+
+    ghost longest = { 1 };
+
+    ghost spelled = { λ how. number_bytes 1 (how_code how) };
+
+    ghost found_in = { choice_in hows };
+
+    ghost law = { how_law };
+
+    fn front(bytes: &[u8]) -> Option<(How, &[u8])> {
+        choice(&HOWS, bytes)
     }
 
     fn size(&self) -> usize {

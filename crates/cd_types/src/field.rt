@@ -1,4 +1,4 @@
-ghost use Rattle.std.specs.Prelude.{◌≡◌, ℕ, ◌+◌, ◌≤◌, ◌++◌, List, length, Option, option_map, vec_len, vec_capacity, IsOk, OnOk, OnErr};
+ghost use Rattle.std.specs.Prelude.{◌≡◌, ℕ, ◌+◌, ◌<◌, ◌≤◌, ◌++◌, List, length, Option, option_map, vec_len, vec_capacity, IsOk, OnOk, OnErr};
 ghost use Rattle.cd_types.specs.Format.{counted, IsFormat};
 
 use crate::NoMemory;
@@ -14,6 +14,9 @@ pub trait Field: Sized {
     /// What a caller has to know of a value to write it. A type that holds nothing else needs nothing.
     ghost writable: { Self → Type 0 };
 
+    /// The most bytes that a value has.
+    ghost longest: { ℕ };
+
     /// The bytes of a value.
     ghost spelled: { Self → List ℕ };
 
@@ -28,6 +31,7 @@ pub trait Field: Sized {
     fn size(&self) -> usize
         requires { writable self.now }
         ensures size { result ≡ length (spelled self.now) }
+        ensures short { result ≤ longest }
         ensures form { form self.now };
 
     /// Appends the field's bytes. It takes no memory.
@@ -59,4 +63,10 @@ pub trait Field: Sized {
 
     /// What is spelled is found again, whatever follows it, and nothing else is found.
     ghost law: { IsFormat form spelled found_in };
+}
+
+/// A field that has few bytes, whatever its value.
+pub trait Small: Field {
+    /// Fewer than 65,536.
+    ghost small: { Self.longest < 65536 };
 }

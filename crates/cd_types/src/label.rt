@@ -1,4 +1,6 @@
-ghost use Rattle.std.specs.Prelude.{◌≡◌, ⊤, map};
+#![tactic(auto, unfolding(crate::specs::Text::text_bytes, crate::specs::Text::text_in, crate::specs::Number::number_bytes))]
+
+ghost use Rattle.std.specs.Prelude.{◌≡◌, ⊤, map, if◌then◌else◌, Some, None};
 ghost use Rattle.std.specs.Char.{to_ascii_uppercase};
 ghost use Rattle.std.specs.List.{list_all, list_any};
 ghost use Rattle.cd_types.specs.Label.{is_label_byte, begins_with_letter, is_reserved, is_label, IsLabel, label_of};
@@ -119,6 +121,18 @@ impl Label {
         }
     }
 
+    /// The label that these bytes are in upper case; `None` exactly where they aren't one.
+    pub fn exact(bytes: &[u8]) -> Option<Self>
+        ensures { result ≡ (if is_label bytes.now then Some bytes.now else None) }
+    {
+        if !is_label(bytes) {
+            return None;
+        }
+        Some(Label {
+            text: Short::new(bytes),
+        })
+    }
+
     /// Its bytes.
     pub fn as_bytes(&self) -> &[u8]
         ensures value { result.now ≡ self.now }
@@ -133,6 +147,8 @@ impl Field for Label {
     ghost form = { IsLabel };
 
     ghost writable = { λ _. ⊤ };
+
+    ghost longest = { 9 };
 
     ghost spelled = { text_bytes 1 };
 
@@ -157,6 +173,7 @@ impl Field for Label {
         ))
     }
 
+    #[tactic(auto, using(crate::specs::LabelLaw::label_is_short), unfolding(crate::specs::Text::text_bytes, crate::specs::Number::number_bytes))]
     fn size(&self) -> usize {
         1 + self.as_bytes().len()
     }

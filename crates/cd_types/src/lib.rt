@@ -1,22 +1,39 @@
 //! The values that every other crate speaks of, each in its stated form, and the fields of the formats.
 #![tactic(auto)]
 
+mod bytes;
+mod card;
 mod choices;
 mod field;
+mod file_name;
+mod key;
 mod label;
 mod memory;
 mod moment;
 mod node_name;
 mod number;
+mod numbers;
+mod optional;
 mod proc_no;
+mod rows;
 mod short;
+mod start;
 mod symbols;
+#[cfg(test)]
+mod tests;
 
-pub use choices::{Cause, Disp, Hold, Queue, Reason, Relation, Retain, Side, TaskKind};
-pub use field::Field;
+pub use bytes::Bytes;
+pub use card::Filed;
+pub use choices::{Cause, Disp, Hold, How, Queue, Reason, Relation, Retain, Side, TaskKind};
+pub use field::{Field, Small};
+pub use file_name::{file_front, is_file_name, put_file, put_text, text_front};
+pub use key::Key;
 pub use label::Label;
 pub use memory::NoMemory;
 pub use moment::Moment;
 pub use node_name::NodeName;
+pub use numbers::Numbers;
 pub use proc_no::ProcNo;
+pub use rows::{Outcomes, Placing, Rc, Receiving, Row};
+pub use start::{Card, Day, Start};
 pub use symbols::Symbols;

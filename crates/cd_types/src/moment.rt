@@ -1,10 +1,12 @@
+#![tactic(auto, unfolding(crate::specs::Text::ranged_in))]
+
 ghost use Rattle.std.specs.Prelude.{◌≡◌, ◌↔◌, ⊤, min, IsSome, IfSome};
-ghost use Rattle.byteorder.specs.Endian.{big_bytes};
+ghost use Rattle.cd_types.specs.Number.{number_bytes};
 ghost use Rattle.cd_types.specs.Moment.{is_moment, IsMoment};
 ghost use Rattle.cd_types.specs.MomentLaw.{moment_law};
 ghost use Rattle.cd_types.specs.Text.{ranged_in};
 
-use crate::Field;
+use crate::{Field, Small};
 use std::marker::Model;
 
 /// A moment, in seconds. Contracts see it as that number, from 0 to 249,999,999,999.
@@ -63,7 +65,9 @@ impl Field for Moment {
 
     ghost writable = { λ _. ⊤ };
 
-    ghost spelled = { big_bytes 8 };
+    ghost longest = { 8 };
+
+    ghost spelled = { number_bytes 8 };
 
     ghost found_in = { ranged_in 8 is_moment };
 
@@ -81,4 +85,10 @@ impl Field for Moment {
     fn put(&self, into: &mut Vec<u8>) {
         self.seconds().put(into);
     }
+}
+
+impl Small for Moment {
+    ghost use Rattle.std.proofs.Common.{arith};
+
+    ghost small = { Prim.omega arith };
 }

@@ -1,11 +1,13 @@
+#![tactic(auto, unfolding(crate::specs::Text::text_bytes, crate::specs::Text::text_in, crate::specs::Number::number_bytes))]
+
 ghost use Rattle.std.specs.Prelude.{◌≡◌, ⊤};
 ghost use Rattle.std.specs.List.{list_all};
 ghost use Rattle.cd_types.specs.NodeName.{is_node_byte, is_node_name, IsNodeName, node_name_of};
 ghost use Rattle.cd_types.specs.NodeNameLaw.{node_name_law};
 ghost use Rattle.cd_types.specs.Text.{text_bytes, text_in};
 
-use crate::Field;
 use crate::short::Short;
+use crate::{Field, Small};
 use std::marker::Model;
 
 /// A node's name: 1 to 16 letters, digits and `. _ - $ # @`. Names are compared byte by byte.
@@ -79,6 +81,8 @@ impl Field for NodeName {
 
     ghost writable = { λ _. ⊤ };
 
+    ghost longest = { 17 };
+
     ghost spelled = { text_bytes 1 };
 
     ghost found_in = { text_in 1 is_node_name };
@@ -94,6 +98,7 @@ impl Field for NodeName {
         Some((NodeName::new(text)?, rest))
     }
 
+    #[tactic(auto, using(crate::specs::NodeNameLaw::node_name_is_short), unfolding(crate::specs::Text::text_bytes, crate::specs::Number::number_bytes))]
     fn size(&self) -> usize {
         1 + self.as_bytes().len()
     }
@@ -103,4 +108,10 @@ impl Field for NodeName {
         (text.len() as u8).put(into);
         into.extend_from_slice(text).unwrap();
     }
+}
+
+impl Small for NodeName {
+    ghost use Rattle.std.proofs.Common.{arith};
+
+    ghost small = { Prim.omega arith };
 }

@@ -1,7 +1,8 @@
 //! Numbers of a fixed width, the highest byte first.
+#![tactic(auto, unfolding(crate::specs::Number::number_bytes, crate::specs::Number::number_in))]
+
 ghost use Rattle.std.specs.Prelude.{◌≡◌, ⊤};
-ghost use Rattle.byteorder.specs.Endian.{big_bytes};
-ghost use Rattle.cd_types.specs.Number.{IsNumber, number_in};
+ghost use Rattle.cd_types.specs.Number.{IsNumber, number_bytes, number_in};
 ghost use Rattle.cd_types.specs.NumberLaw.{number_law};
 
 use crate::Field;
@@ -12,7 +13,9 @@ impl Field for u8 {
 
     ghost writable = { λ _. ⊤ };
 
-    ghost spelled = { big_bytes 1 };
+    ghost longest = { 1 };
+
+    ghost spelled = { number_bytes 1 };
 
     ghost found_in = { number_in 1 };
 
@@ -38,7 +41,9 @@ impl Field for u16 {
 
     ghost writable = { λ _. ⊤ };
 
-    ghost spelled = { big_bytes 2 };
+    ghost longest = { 2 };
+
+    ghost spelled = { number_bytes 2 };
 
     ghost found_in = { number_in 2 };
 
@@ -68,7 +73,9 @@ impl Field for u32 {
 
     ghost writable = { λ _. ⊤ };
 
-    ghost spelled = { big_bytes 4 };
+    ghost longest = { 4 };
+
+    ghost spelled = { number_bytes 4 };
 
     ghost found_in = { number_in 4 };
 
@@ -98,7 +105,9 @@ impl Field for u64 {
 
     ghost writable = { λ _. ⊤ };
 
-    ghost spelled = { big_bytes 8 };
+    ghost longest = { 8 };
+
+    ghost spelled = { number_bytes 8 };
 
     ghost found_in = { number_in 8 };
 

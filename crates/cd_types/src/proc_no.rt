@@ -1,5 +1,7 @@
+#![tactic(auto, unfolding(crate::specs::Text::ranged_in))]
+
 ghost use Rattle.std.specs.Prelude.{◌≡◌, ⊤};
-ghost use Rattle.byteorder.specs.Endian.{big_bytes};
+ghost use Rattle.cd_types.specs.Number.{number_bytes};
 ghost use Rattle.cd_types.specs.ProcNo.{is_proc_no, IsProcNo, proc_no_of};
 ghost use Rattle.cd_types.specs.ProcNoLaw.{proc_no_law};
 ghost use Rattle.cd_types.specs.Text.{ranged_in};
@@ -54,7 +56,9 @@ impl Field for ProcNo {
 
     ghost writable = { λ _. ⊤ };
 
-    ghost spelled = { big_bytes 4 };
+    ghost longest = { 4 };
+
+    ghost spelled = { number_bytes 4 };
 
     ghost found_in = { ranged_in 4 is_proc_no };
 

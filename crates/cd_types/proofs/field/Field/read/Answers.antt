@@ -1,4 +1,4 @@
-use Rattle.std.proofs.Common.{◌+◌, ◌≡◌, length, ap, sym, arith, length-append}
+use Rattle.std.proofs.Common.{length, ap, sym, arith, length-append}
 use Rattle.cd_types.proofs.field.Field.read.Goals as goal
 
 pub overflow_sub-result : goal.overflow_sub-result
