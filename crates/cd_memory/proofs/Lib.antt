@@ -1,0 +1,3 @@
+mod Doubtful
+mod Left
+mod Replay

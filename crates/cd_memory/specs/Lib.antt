@@ -1,0 +1,4 @@
+pub mod Generator
+pub mod Image
+pub mod Record
+pub mod Tied
