@@ -1,7 +1,7 @@
 -- The image that a crash leaves of a content.
 use Rattle.std.proofs.Common.{◌≡◌, ◌≤◌, List, ℕ, length, sym, ◌∙◌, ap, subst, arith}
 use Rattle.std.specs.Prelude.{reverse}
-use Rattle.cd_outside.specs.Doubt.{Doubt, IsImage}
+use Rattle.cd_outside.specs.Doubt.{IsImage}
 use Rattle.cd_memory.specs.Generator.{left_by}
 use Rattle.cd_memory.specs.Record.{Held}
 use Rattle.cd_memory.specs.Tied.{state_in, held_in, IsTied}

@@ -1,8 +1,8 @@
 -- How the record of a disk grows by a call.
-use Rattle.std.proofs.Common.{◌≡◌, ℕ, ◌+◌, ◌-◌, ◌≤◌, List, [], ◌∷◌, ◌++◌, length, take, drop, refl, sym, ◌∙◌, ap, arith, length-append, length-take, length-drop}
+use Rattle.std.proofs.Common.{◌≡◌, ℕ, ◌+◌, ◌-◌, ◌≤◌, List, [], ◌∷◌, ◌++◌, length, take, drop, sym, ◌∙◌, ap, arith, length-drop}
 use Rattle.std.proofs.lemmas.List.{take_all, take-append-le, drop-append-le, nil_from_length, reverse-append}
 use Rattle.std.specs.Prelude.{reverse}
-use Rattle.cd_outside.specs.Disk.{Change, DiskState, did}
+use Rattle.cd_outside.specs.Disk.{DiskState, did}
 use Rattle.cd_memory.specs.Record.{at_first, change_of, replayed, used_by}
 use Rattle.cd_memory.specs.declared.entry.Entry.{Entry}
 

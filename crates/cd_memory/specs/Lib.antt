@@ -1,4 +1,6 @@
 pub mod Generator
 pub mod Image
+pub mod MemoryDisk
 pub mod Record
+pub mod Stops
 pub mod Tied

@@ -1,5 +1,5 @@
 -- How the fields of a content hold the state of its record.
-use Rattle.std.specs.Prelude.{ℕ, ◌-◌, ◌≤◌, ◌≡◌, min, List, length, take, drop, reverse, vec_len, vec_capacity}
+use Rattle.std.specs.Prelude.{◌-◌, ◌≤◌, ◌≡◌, min, length, take, drop, reverse, vec_len, vec_capacity}
 use Rattle.cd_outside.specs.Disk.{DiskState}
 use Rattle.cd_memory.specs.Record.{at_first, replayed, used_by, Held}
 use Rattle.cd_memory.specs.declared.content.Content.TheInside.{Inside}

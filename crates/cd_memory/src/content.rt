@@ -1,4 +1,4 @@
-ghost use Rattle.std.specs.Prelude.{◌≡◌, ◌≤◌, ◌+◌, ◌-◌, ◌++◌, length, take, drop, OnOk, IsOk, [], min, vec_len, vec_capacity};
+ghost use Rattle.std.specs.Prelude.{◌≡◌, ◌≤◌, ◌+◌, ◌-◌, ◌++◌, length, take, drop, OnOk, OnErr, IsOk, [], min, vec_len, vec_capacity};
 ghost use Rattle.cd_outside.specs.Disk.{Write, Cut, Sync, did};
 ghost use Rattle.cd_outside.specs.Doubt.{IsImage};
 ghost use Rattle.cd_memory.specs.Generator.{left_by};
@@ -88,6 +88,7 @@ impl Content {
         requires calls { 1 ≤ self.old.calls_left }
         requires bytes { length bytes.now ≤ self.old.bytes_left }
         ensures state { self.new.state ≡ did (Write at bytes.now) beat self.old.state }
+        ensures image { IsImage self.old.state.doubt self.old.state.seen → IsImage self.new.state.doubt self.new.state.seen }
         ensures calls { self.old.calls_left ≤ self.new.calls_left + 1 }
         ensures bytes { self.old.bytes_left ≤ self.new.bytes_left + length bytes.now }
     {
@@ -108,6 +109,7 @@ impl Content {
         requires calls { 1 ≤ self.old.calls_left }
         requires bytes { len ≤ length self.old.state.seen + self.old.bytes_left }
         ensures state { self.new.state ≡ did (Cut len) beat self.old.state }
+        ensures image { IsImage self.old.state.doubt self.old.state.seen → IsImage self.new.state.doubt self.new.state.seen }
         ensures calls { self.old.calls_left ≤ self.new.calls_left + 1 }
         ensures bytes { self.old.bytes_left ≤ self.new.bytes_left + (len - length self.old.state.seen) }
     {
@@ -129,6 +131,7 @@ impl Content {
     pub fn sync(&mut self, beat: u64)
         requires { 1 ≤ self.old.calls_left }
         ensures state { self.new.state ≡ did Sync beat self.old.state }
+        ensures image { IsImage self.new.state.doubt self.new.state.seen }
         ensures calls { self.old.calls_left ≤ self.new.calls_left + 1 }
         ensures bytes { self.old.bytes_left ≤ self.new.bytes_left }
     {
@@ -165,5 +168,18 @@ impl Content {
         self.first = self.seen.len();
         self.least = self.seen.len();
         self.greatest = self.seen.len();
+    }
+
+    /// Settles these bytes in place of all that was there, and forgets the calls of the past.
+    pub fn put(&mut self, bytes: &[u8]) -> Result<(), NoMemory>
+        requires { IsImage self.old.state.doubt self.old.state.seen }
+        ensures put { OnOk result (self.new.state ≡ at_first bytes.now) }
+        ensures same { OnErr result (self.new.state ≡ self.old.state) }
+    {
+        self.room(2, bytes.len())?;
+        self.write(0, bytes, 0);
+        self.cut(bytes.len() as u64, 0);
+        self.leave(1);
+        Ok(())
     }
 }

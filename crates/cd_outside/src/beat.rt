@@ -1,4 +1,4 @@
-ghost use Rattle.std.specs.Prelude.{◌≡◌, ◌+◌, ◌<◌, ◌^◌, ◌↔◌, IsTrue};
+ghost use Rattle.std.specs.Prelude.{◌≡◌, ◌+◌, ◌<◌, ◌≤◌, ◌^◌, ◌↔◌, IsTrue};
 ghost use Rattle.cd_outside.specs.Counts.{next};
 
 use std::marker::Model;
@@ -38,6 +38,7 @@ impl Beat {
     pub fn raise(&mut self) -> bool
         ensures raised { IsTrue result ↔ (self.old + 1 < 2 ^ 64) }
         ensures next { self.new ≡ next self.old }
+        ensures forward { self.old ≤ self.new }
     {
         if self.at < u64::MAX {
             self.at += 1;

@@ -1,4 +1,4 @@
-use Rattle.std.proofs.Common.{◌≡◌, ℕ, ◌+◌, ◌-◌, ◌≤◌, List, [], ◌∷◌, ◌++◌, length, replicate, take, refl, sym, ◌∙◌, ap, arith, length-append}
+use Rattle.std.proofs.Common.{◌≡◌, ℕ, ◌+◌, ◌-◌, List, ◌++◌, length, replicate, sym, ◌∙◌, ap, arith, length-append}
 use Rattle.std.proofs.lemmas.List.{take_all, length-replicate}
 use Rattle.cd_outside.specs.Content.{resized}
 use Rattle.cd_outside.specs.Disk.{DiskState, Cut, did}
@@ -6,6 +6,7 @@ use Rattle.cd_outside.proofs.Contents.{length-resized}
 use Rattle.cd_memory.specs.Record.{Held, used_by}
 use Rattle.cd_memory.specs.declared.entry.Entry.{Entry}
 use Rattle.cd_memory.specs.declared.entry.Kind.TheVariants.{Resized}
+use Rattle.cd_memory.proofs.Kept.{cut_is_image}
 use Rattle.cd_memory.proofs.Replay.{used_by_push, state_of, state_push}
 use Rattle.cd_memory.proofs.content.Content.cut.Goals as goal
 
@@ -61,3 +62,6 @@ invariant_of-self c =
       seen_room = omega (arith, c.resize_within-2.ensures.room, greatest, c.requires.bytes, left, seen_was, seen_is, t.seen_to, t.seen_room);
       base_room = omega (arith, greatest, c.requires.bytes, left, seen_was, seen_is, t.seen_to, t.base_room);
     }
+
+pub returns-clause-image : goal.returns-clause-image
+returns-clause-image c now = cut_is_image c.args.len c.args.beat c.args.self.now.state _ (returns-clause-state c) now

@@ -1,4 +1,4 @@
-use Rattle.std.proofs.Common.{◌≡◌, ◌≤◌, length, sym, ◌∙◌, ap, subst, arith}
+use Rattle.std.proofs.Common.{◌≡◌, length, sym, ◌∙◌, ap, subst, arith}
 use Rattle.cd_outside.specs.Doubt.{IsImage}
 use Rattle.cd_outside.specs.Disk.{DiskState}
 use Rattle.cd_memory.specs.Record.{Held, at_first}

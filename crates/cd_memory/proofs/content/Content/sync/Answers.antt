@@ -1,9 +1,10 @@
-use Rattle.std.proofs.Common.{◌≡◌, ◌+◌, ◌≤◌, [], ◌∷◌, ◌++◌, length, refl, sym, ◌∙◌, ap, arith}
+use Rattle.std.proofs.Common.{◌≡◌, [], length, refl, sym, ◌∙◌, ap, arith}
 use Rattle.std.proofs.lemmas.List.{append-nil}
 use Rattle.cd_outside.specs.Disk.{DiskState, Sync, did}
 use Rattle.cd_memory.specs.Record.{Held, used_by}
 use Rattle.cd_memory.specs.declared.entry.Entry.{Entry}
 use Rattle.cd_memory.specs.declared.entry.Kind.TheVariants.{Synced}
+use Rattle.cd_memory.proofs.Kept.{synced_is_image}
 use Rattle.cd_memory.proofs.Replay.{used_by_push, state_of, state_push}
 use Rattle.cd_memory.proofs.content.Content.sync.Goals as goal
 use Rattle.std.specs.Prelude.{reverse}
@@ -44,3 +45,6 @@ invariant_of-self c =
       seen_room = omega (arith, len2, a.seen.ok.0, t.seen_to, t.seen_room);
       base_room = omega (arith, len2, a.seen.ok.0, t.seen_to, t.base_room, c.replace_within.ensures.room);
     }
+
+pub returns-clause-image : goal.returns-clause-image
+returns-clause-image c = synced_is_image c.args.beat c.args.self.now.state _ (returns-clause-state c)

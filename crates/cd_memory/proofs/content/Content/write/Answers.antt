@@ -1,10 +1,11 @@
-use Rattle.std.proofs.Common.{◌≡◌, ◌+◌, ◌≤◌, [], ◌∷◌, ◌++◌, length, refl, sym, ◌∙◌, ap, arith, length-append}
+use Rattle.std.proofs.Common.{◌≡◌, ◌≤◌, length, refl, sym, ◌∙◌, ap, arith, length-append}
 use Rattle.cd_outside.specs.Content.{overwritten}
 use Rattle.cd_outside.specs.Disk.{DiskState, Write, did}
 use Rattle.cd_outside.proofs.Contents.{length-overwritten}
 use Rattle.cd_memory.specs.Record.{Held, used_by}
 use Rattle.cd_memory.specs.declared.entry.Entry.{Entry}
 use Rattle.cd_memory.specs.declared.entry.Kind.TheVariants.{Written}
+use Rattle.cd_memory.proofs.Kept.{written_is_image}
 use Rattle.cd_memory.proofs.Replay.{used_by_push, reverse_push, state_of, state_push}
 use Rattle.cd_memory.proofs.content.Content.write.Goals as goal
 
@@ -48,3 +49,6 @@ invariant_of-self c =
       seen_room = omega (arith, c.overwrite_within.ensures.room, greatest, room, left, c.requires.place, seen_was, seen_is, t.seen_to, t.seen_room);
       base_room = omega (arith, greatest, room, left, c.requires.place, seen_was, seen_is, t.seen_to, t.base_room);
     }
+
+pub returns-clause-image : goal.returns-clause-image
+returns-clause-image c now = written_is_image c.args.at c.args.bytes.now c.args.beat c.args.self.now.state _ (returns-clause-state c) c.requires.place now
