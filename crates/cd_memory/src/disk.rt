@@ -1,6 +1,10 @@
 ghost use Rattle.cd_outside.specs.Doubt.{IsImage};
 
-use crate::{Content, Fate, FaultScript, Stop, Tally};
+use crate::FaultScript;
+use crate::content::Content;
+use crate::fate::Fate;
+use crate::stop::Stop;
+use crate::tally::Tally;
 use cd_outside::{Beat, Disk, Failed};
 use cd_types::NoMemory;
 use std::alloc::Global;

@@ -2,7 +2,7 @@ ghost use Rattle.std.specs.Prelude.{◌≡◌, ◌≤◌, ◌||◌, Some, None, 
 ghost use Rattle.cd_outside.specs.Counts.{next};
 ghost use Rattle.cd_memory.specs.Stops.{fate_of, is_stopping};
 
-use crate::Fate;
+use crate::fate::Fate;
 use cd_outside::Beat;
 
 /// A stop within the changing call that raises to a beat.
