@@ -1,5 +1,9 @@
 -- What a disk in memory shows.
-use Rattle.std.specs.Prelude.{ℕ, ◌≡◌, Bool, List, Option}
+use Rattle.std.specs.Prelude.{ℕ, ◌≡◌, ◌==◌, Bool, ◌||◌, true, List, Option}
+use Rattle.std.specs.List.{list_any}
+use Rattle.cd_outside.specs.Counts.{next}
+use Rattle.cd_memory.specs.Stops.{fate_of, is_stopping}
+use Rattle.cd_memory.specs.declared.fate.Fate.{Fate}
 use Rattle.cd_outside.specs.Disk.{DiskState}
 use Rattle.cd_memory.specs.declared.disk.MemoryDisk.{MemoryDisk}
 
@@ -49,3 +53,27 @@ pub record ChangesScript (old new : MemoryDisk) (failing : List ℕ) : Type 0 wh
   pub starved : is_starved new ≡ is_starved old
   pub stop : stop_of new ≡ stop_of old
   pub stopped : is_stopped new ≡ is_stopped old
+
+-- the script says that the next call fails
+abbrev pub fails_next : MemoryDisk → Bool
+fails_next disk = list_any (λ n. n == next (calls_of disk)) (script_of disk)
+
+-- what is to come of the next call, where it is a changing one and this is the beat at its begin
+abbrev pub next_fate : MemoryDisk → ℕ → Fate
+next_fate disk beat = fate_of (stop_of disk) beat (fails_next disk)
+
+-- a call that changes nothing was counted
+pub record WasAsked (old new : MemoryDisk) : Type 0 where
+  pub script : script_of new ≡ script_of old
+  pub calls : calls_of new ≡ next (calls_of old)
+  pub starved : is_starved new ≡ is_starved old
+  pub stop : stop_of new ≡ stop_of old
+  pub stopped : is_stopped new ≡ is_stopped old
+
+-- a changing call was counted, and met the stop where that comes within it or came before it
+pub record WasCalled (beat : ℕ) (old new : MemoryDisk) : Type 0 where
+  pub script : script_of new ≡ script_of old
+  pub calls : calls_of new ≡ next (calls_of old)
+  pub starved : is_starved old ≡ true → is_starved new ≡ true
+  pub stop : stop_of new ≡ stop_of old
+  pub stopped : is_stopped new ≡ (is_stopped old || is_stopping (stop_of old) beat)

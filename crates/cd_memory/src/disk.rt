@@ -99,6 +99,12 @@ impl MemoryDisk {
 }
 
 impl Disk for MemoryDisk {
+    ghost use Rattle.std.specs.Prelude.{◌≡◌, ◌≤◌, ◌<◌, ◌+◌, length, take, drop, true, false, IsOk, IsErr, IfOk, OnOk, OnErr};
+    ghost use Rattle.cd_outside.specs.Counts.{next, Rose};
+    ghost use Rattle.cd_outside.specs.Disk.{Write, Cut, Sync, last_of, did, WasCutOff};
+    ghost use Rattle.cd_memory.specs.MemoryDisk.{state_of, faults_of, is_starved, fails_next, next_fate, WasAsked, WasCalled};
+    ghost use Rattle.cd_memory.specs.declared.fate.Fate.TheVariants.{Done, UnderWay, Nothing};
+
     ghost told = { Unit {0} };
 
     ghost state = { λ disk. disk.content.state };
@@ -107,14 +113,32 @@ impl Disk for MemoryDisk {
 
     ghost seen_is_image = { λ disk told. disk.sound };
 
-    fn len(&mut self) -> Result<u64, Failed> {
+    fn len(&mut self) -> Result<u64, Failed>
+        ensures same { state_of self.new ≡ state_of self.old }
+        ensures length { IfOk result (λ n. n ≡ length (state_of self.old).seen) }
+        ensures later { faults_of self.old ≤ faults_of self.new }
+        ensures cause { OnErr result (Rose (faults_of self.old) (faults_of self.new)) }
+        ensures asked { WasAsked self.old self.new }
+        ensures fails { fails_next self.old ≡ true → IsErr result }
+        ensures goes { fails_next self.old ≡ false → IsOk result }
+    {
         if self.tally.begin() {
             return Err(self.tally.failed());
         }
         Ok(self.content.seen().len() as u64)
     }
 
-    fn read(&mut self, at: u64, into: &mut [u8]) -> Result<(), Failed> {
+    fn read(&mut self, at: u64, into: &mut [u8]) -> Result<(), Failed>
+        requires { at + length into.old ≤ length (state_of self.old).seen }
+        ensures same { state_of self.new ≡ state_of self.old }
+        ensures bytes { OnOk result (into.new ≡ take (length into.old) (drop at (state_of self.old).seen)) }
+        ensures none { OnErr result (into.new ≡ into.old) }
+        ensures later { faults_of self.old ≤ faults_of self.new }
+        ensures cause { OnErr result (Rose (faults_of self.old) (faults_of self.new)) }
+        ensures asked { WasAsked self.old self.new }
+        ensures fails { fails_next self.old ≡ true → IsErr result }
+        ensures goes { fails_next self.old ≡ false → IsOk result }
+    {
         if self.tally.begin() {
             return Err(self.tally.failed());
         }
@@ -123,7 +147,22 @@ impl Disk for MemoryDisk {
         Ok(())
     }
 
-    fn write_at(&mut self, at: u64, bytes: &[u8], beat: &mut Beat) -> Result<(), Failed> {
+    fn write_at(&mut self, at: u64, bytes: &[u8], beat: &mut Beat) -> Result<(), Failed>
+        requires range { at ≤ length (state_of self.old).seen }
+        requires order { last_of (state_of self.old).calls ≤ beat.old }
+        ensures done { OnOk result (state_of self.new ≡ did (Write at bytes.now) beat.new (state_of self.old)) }
+        ensures cut_off { OnErr result (WasCutOff (Write at bytes.now) beat.old beat.new (state_of self.old) (state_of self.new)) }
+        ensures order { last_of (state_of self.new).calls ≤ beat.new }
+        ensures beat { beat.new ≡ next beat.old }
+        ensures forward { beat.old ≤ beat.new }
+        ensures raised { OnOk result (beat.old < beat.new) }
+        ensures later { faults_of self.old ≤ faults_of self.new }
+        ensures cause { OnErr result (Rose (faults_of self.old) (faults_of self.new)) }
+        ensures called { WasCalled beat.old self.old self.new }
+        ensures nothing { next_fate self.old beat.old ≡ Nothing → IsErr result × (state_of self.new ≡ state_of self.old) }
+        ensures under_way { next_fate self.old beat.old ≡ UnderWay → IsErr result × (is_starved self.new ≡ false → state_of self.new ≡ did (Write at bytes.now) beat.new (state_of self.old)) }
+        ensures goes { next_fate self.old beat.old ≡ Done → is_starved self.new ≡ false → IsOk result }
+    {
         let fails = self.tally.begin();
         let fate = self.stop.fate(beat, fails);
         if let Fate::Nothing = fate {
@@ -140,7 +179,21 @@ impl Disk for MemoryDisk {
         }
     }
 
-    fn cut(&mut self, len: u64, beat: &mut Beat) -> Result<(), Failed> {
+    fn cut(&mut self, len: u64, beat: &mut Beat) -> Result<(), Failed>
+        requires { last_of (state_of self.old).calls ≤ beat.old }
+        ensures done { OnOk result (state_of self.new ≡ did (Cut len) beat.new (state_of self.old)) }
+        ensures cut_off { OnErr result (WasCutOff (Cut len) beat.old beat.new (state_of self.old) (state_of self.new)) }
+        ensures order { last_of (state_of self.new).calls ≤ beat.new }
+        ensures beat { beat.new ≡ next beat.old }
+        ensures forward { beat.old ≤ beat.new }
+        ensures raised { OnOk result (beat.old < beat.new) }
+        ensures later { faults_of self.old ≤ faults_of self.new }
+        ensures cause { OnErr result (Rose (faults_of self.old) (faults_of self.new)) }
+        ensures called { WasCalled beat.old self.old self.new }
+        ensures nothing { next_fate self.old beat.old ≡ Nothing → IsErr result × (state_of self.new ≡ state_of self.old) }
+        ensures under_way { next_fate self.old beat.old ≡ UnderWay → IsErr result × (is_starved self.new ≡ false → state_of self.new ≡ did (Cut len) beat.new (state_of self.old)) }
+        ensures goes { next_fate self.old beat.old ≡ Done → is_starved self.new ≡ false → IsOk result }
+    {
         let fails = self.tally.begin();
         let fate = self.stop.fate(beat, fails);
         if let Fate::Nothing = fate {
@@ -158,7 +211,21 @@ impl Disk for MemoryDisk {
         }
     }
 
-    fn sync(&mut self, beat: &mut Beat) -> Result<(), Failed> {
+    fn sync(&mut self, beat: &mut Beat) -> Result<(), Failed>
+        requires { last_of (state_of self.old).calls ≤ beat.old }
+        ensures done { OnOk result (state_of self.new ≡ did Sync beat.new (state_of self.old)) }
+        ensures same { OnErr result (state_of self.new ≡ state_of self.old) }
+        ensures order { last_of (state_of self.new).calls ≤ beat.new }
+        ensures beat { beat.new ≡ next beat.old }
+        ensures forward { beat.old ≤ beat.new }
+        ensures raised { OnOk result (beat.old < beat.new) }
+        ensures later { faults_of self.old ≤ faults_of self.new }
+        ensures cause { OnErr result (Rose (faults_of self.old) (faults_of self.new)) }
+        ensures called { WasCalled beat.old self.old self.new }
+        ensures nothing { next_fate self.old beat.old ≡ Nothing → IsErr result × (state_of self.new ≡ state_of self.old) }
+        ensures under_way { next_fate self.old beat.old ≡ UnderWay → IsErr result × (state_of self.new ≡ state_of self.old) }
+        ensures goes { next_fate self.old beat.old ≡ Done → is_starved self.new ≡ false → IsOk result }
+    {
         let fails = self.tally.begin();
         match self.stop.fate(beat, fails) {
             Fate::Done => {}
