@@ -1,5 +1,7 @@
 -- What the clock, the source and the sink in memory show.
-use Rattle.std.specs.Prelude.{ℕ, Bool, List}
+use Rattle.std.specs.Prelude.{ℕ, Bool, ◌==◌, List}
+use Rattle.std.specs.List.{list_any}
+use Rattle.cd_outside.specs.Counts.{next}
 use Rattle.cd_memory.specs.declared.clock.MemoryClock.{MemoryClock}
 use Rattle.cd_memory.specs.declared.sink.MemorySink.{MemorySink}
 use Rattle.cd_memory.specs.declared.source.MemorySource.{MemorySource}
@@ -43,3 +45,10 @@ sink_faults sink = sink.tally.faults
 -- a call found no memory
 abbrev pub is_sink_starved : MemorySink → Bool
 is_sink_starved sink = sink.tally.starved
+
+-- the script says that the next call fails
+abbrev pub source_fails_next : MemorySource → Bool
+source_fails_next source = list_any (λ n. n == next (source_calls source)) (source_script source)
+
+abbrev pub sink_fails_next : MemorySink → Bool
+sink_fails_next sink = list_any (λ n. n == next (sink_calls sink)) (sink_script sink)
