@@ -2,3 +2,4 @@ pub mod Places
 pub mod Digits
 pub mod PlainText
 pub mod Tested
+pub mod Legality

@@ -38,10 +38,11 @@ pub data Scan : Type 0 where
   Within : Spot → List ℕ → Scan
   Over : Scan
 
--- what came to its end: a command, or the room for one
+-- What came to its end: a command; the room for one, before its `;` came; or the input, within a command or a comment.
 pub data Event : Type 0 where
   Whole : List ℕ → Event
   TooLong : Event
+  Unfinished : Event
 
 -- one byte more of a command
 abbrev pub within_after : Spot → List ℕ → ℕ → Scan × List Event
@@ -94,3 +95,7 @@ is_rest (Between Inside) = false
 is_rest (Between Line) = false
 is_rest Over = false
 is_rest _ = true
+
+-- what the input's end brings to its end
+abbrev pub end_events : Scan → List Event
+end_events scan = if is_rest scan then Unfinished ∷ [] else []

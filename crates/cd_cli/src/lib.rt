@@ -2,6 +2,7 @@
 #![tactic(auto)]
 
 mod canonical;
+mod home;
 mod input;
 mod plain;
 mod reply;

@@ -1,5 +1,5 @@
 -- Fields of one byte, each of which is the place of its value in a list of all values.
-use Rattle.std.specs.Prelude.{ℕ, List, [], ◌∷◌}
+use Rattle.std.specs.Prelude.{ℕ, List, [], ◌∷◌, Bool, not, ◌==◌}
 use Rattle.cd_types.specs.declared.choices.Hold.{Hold}
 use Rattle.cd_types.specs.declared.choices.Hold.TheVariants as hold
 use Rattle.cd_types.specs.declared.choices.Retain.{Retain}
@@ -88,6 +88,10 @@ cause_code cause.TooLarge = 13
 cause_code cause.SubmitNode = 14
 cause_code cause.Trouble = 15
 cause_code cause.SubmitStart = 16
+
+-- a cause that a result may have: Trouble is told to the partner and not kept
+unfoldable pub is_kept : Cause → Bool
+is_kept why = not (cause_code why == 15)
 
 -- made, replaced, added to
 abbrev pub disps : List Disp

@@ -1,10 +1,10 @@
 -- Layouts: fields one behind another, each with its law. A row of a table of formats is one line here.
-use Rattle.std.specs.Prelude.{ℕ, Bool, IsTrue, List, Option, ⊤}
+use Rattle.std.specs.Prelude.{◌≡◌, ℕ, Bool, IsTrue, List, Option, ⊤}
 use Rattle.cd_types.specs.Format.{IsFormat}
-use Rattle.cd_types.specs.Choices.{queue_code, queues, reason_code, reasons, cause_code, causes, disp_code, disps, task_kind_code, task_kinds, how_code, hows}
+use Rattle.cd_types.specs.Choices.{queue_code, queues, reason_code, reasons, cause_code, causes, is_kept, disp_code, disps, task_kind_code, task_kinds, how_code, hows}
 use Rattle.cd_types.specs.ChoicesLaw.{queue_law, reason_law, cause_law, disp_law, task_kind_law, how_law}
-use Rattle.cd_types.specs.Compound.{both_bytes, both_in, AreBoth, tested_in, choice_in, flag, flags, optional_bytes, optional_in, IsOptional}
-use Rattle.cd_types.specs.CompoundLaw.{both_law, tested_law, flag_law, optional_law}
+use Rattle.cd_types.specs.Compound.{both_bytes, both_in, AreBoth, made_in, tested_in, choice_in, flag, flags, optional_bytes, optional_in, IsOptional}
+use Rattle.cd_types.specs.CompoundLaw.{both_law, made_law, tested_law, flag_law, optional_law}
 use Rattle.cd_types.specs.FileName.{is_file_name, is_text}
 use Rattle.cd_types.specs.FileNameLaw.{file_name_law, plain_text_law}
 use Rattle.cd_types.specs.Filed.{IsCard, card_bytes, card_in}
@@ -56,6 +56,15 @@ optional a = record {
   law = optional_law a.Form a.spelled a.found_in a.law;
 }
 
+-- seen as a value that is made of them, where the value and its parts determine each other
+abbrev pub made : {A B : Type 0} (make : A → B) (parts : B → A) → ((x : A) → parts (make x) ≡ x) → ((y : B) → make (parts y) ≡ y) → Layout A → Layout B
+made make parts apart whole a = record {
+  Form = λ y. a.Form (parts y);
+  spelled = λ y. a.spelled (parts y);
+  found_in = made_in make a.found_in;
+  law = made_law a.Form a.spelled a.found_in parts make apart whole a.law;
+}
+
 -- with values that pass a test alone
 abbrev pub tested : {A : Type 0} → (A → Bool) → Layout A → Layout A
 tested test a = record {
@@ -100,6 +109,10 @@ reason = record { Form = λ _. ⊤; spelled = λ x. number_bytes 1 (reason_code 
 
 abbrev pub cause : Layout Cause
 cause = record { Form = λ _. ⊤; spelled = λ x. number_bytes 1 (cause_code x); found_in = choice_in causes; law = cause_law }
+
+-- the cause of a result
+abbrev pub kept_cause : Layout Cause
+kept_cause = tested is_kept cause
 
 abbrev pub disp : Layout Disp
 disp = record { Form = λ _. ⊤; spelled = λ x. number_bytes 1 (disp_code x); found_in = choice_in disps; law = disp_law }

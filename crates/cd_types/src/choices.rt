@@ -3,7 +3,7 @@
 
 ghost use Rattle.std.specs.Prelude.{◌≡◌, ⊤, option_map};
 ghost use Rattle.cd_types.specs.Number.{number_bytes};
-ghost use Rattle.cd_types.specs.Choices.{holds, hold_code, retains, retain_code, queues, queue_code, reasons, reason_code, causes, cause_code, disps, disp_code, task_kinds, task_kind_code, hows, how_code};
+ghost use Rattle.cd_types.specs.Choices.{holds, hold_code, retains, retain_code, queues, queue_code, reasons, reason_code, causes, cause_code, is_kept, disps, disp_code, task_kinds, task_kind_code, hows, how_code};
 ghost use Rattle.cd_types.specs.ChoicesLaw.{hold_law, retain_law, queue_law, reason_law, cause_law, disp_law, task_kind_law, how_law};
 ghost use Rattle.cd_types.specs.Compound.{choice_in};
 
@@ -250,6 +250,16 @@ impl Field for Reason {
 
     fn put(&self, into: &mut Vec<u8>) {
         (*self as u8).put(into);
+    }
+}
+
+impl Cause {
+    /// Whether a result may have it. Trouble is told to the partner alone.
+    #[tactic(auto, unfolding(crate::specs::Choices::is_kept))]
+    pub fn is_kept(self) -> bool
+        ensures { result ≡ is_kept self }
+    {
+        self as u8 != Cause::Trouble as u8
     }
 }
 

@@ -1,0 +1,104 @@
+use cd_types::{
+    Bytes, Cause, Disp, Filed, How, Key, Moment, NodeName, ProcNo, Queue, Rc, Reason, TaskKind,
+};
+use thiserror::Error;
+
+/// An entry of the journal: one thing that the node did or was told, to be kept over a stop.
+#[derive(Debug, Drop, PartialEq)]
+pub enum Entry {
+    /// The node's name and home identity. It is the first entry, and stands there alone.
+    Home {
+        name: NodeName,
+        home: u64,
+    },
+    /// A Process was submitted, by a command or by the SUBMIT step whose key is its origin. The text is canonical.
+    Submitted {
+        number: ProcNo,
+        moment: Moment,
+        origin: Option<Key>,
+        card: Filed,
+        text: Bytes,
+    },
+    /// A Process went to a queue.
+    Placed {
+        number: ProcNo,
+        queue: Queue,
+        reason: Reason,
+        due: Moment,
+        attempts: u16,
+        prty: u8,
+        moment: Moment,
+    },
+    /// A task or a job is about to be started, for the time that `attempt` counts.
+    Started {
+        key: Key,
+        kind: TaskKind,
+        attempt: u32,
+        moment: Moment,
+    },
+    /// A file is about to be received: its name and disposition, whether a file was there, how many bytes of it
+    /// stay, how many come, and how many lie between two marks (0 for no marks).
+    Receiving {
+        key: Key,
+        file: Bytes,
+        disp: Disp,
+        there: bool,
+        base: u64,
+        length: u64,
+        interval: u64,
+    },
+    /// So many bytes of a file that comes are safe.
+    Mark {
+        key: Key,
+        offset: u64,
+    },
+    /// How a step ended at the node that keeps its outcome. `made` is the number of the Process that a SUBMIT made,
+    /// and 0 for none.
+    Result {
+        key: Key,
+        rc: Rc,
+        cause: Cause,
+        bytes: u64,
+        made: u32,
+        moment: Moment,
+    },
+    /// How a step of a Process of this node ended.
+    Ended {
+        number: ProcNo,
+        place: u16,
+        rc: Rc,
+        cause: Cause,
+        bytes: u64,
+        moment: Moment,
+    },
+    /// A Process of this node ended.
+    Closed {
+        number: ProcNo,
+        how: How,
+        moment: Moment,
+    },
+    /// Another node's Process is over, and its keys are not asked for again.
+    Forgot {
+        name: NodeName,
+        home: u64,
+        number: ProcNo,
+    },
+    /// A file that came was dropped, and how its step ended.
+    Dropped {
+        key: Key,
+        rc: Rc,
+        cause: Cause,
+        moment: Moment,
+    },
+}
+
+/// Why bytes gave no entry.
+#[derive(Debug, Drop, Error)]
+pub enum EntryFault {
+    /// They are none.
+    #[error("not an entry")]
+    Unfit,
+    /// Memory ran out.
+    #[error("no memory")]
+    NoMemory,
+}
