@@ -1,5 +1,6 @@
 use cd_types::{
-    Bytes, Cause, Disp, Filed, How, Key, Moment, NodeName, ProcNo, Queue, Rc, Reason, TaskKind,
+    Bytes, Cause, Filed, How, Key, Moment, NodeName, Outcomes, Placing, ProcNo, Rc, Receiving,
+    TaskKind,
 };
 use thiserror::Error;
 
@@ -22,11 +23,7 @@ pub enum Entry {
     /// A Process went to a queue.
     Placed {
         number: ProcNo,
-        queue: Queue,
-        reason: Reason,
-        due: Moment,
-        attempts: u16,
-        prty: u8,
+        placing: Placing,
         moment: Moment,
     },
     /// A task or a job is about to be started, for the time that `attempt` counts.
@@ -36,30 +33,17 @@ pub enum Entry {
         attempt: u32,
         moment: Moment,
     },
-    /// A file is about to be received: its name and disposition, whether a file was there, how many bytes of it
-    /// stay, how many come, and how many lie between two marks (0 for no marks).
-    Receiving {
-        key: Key,
-        file: Bytes,
-        disp: Disp,
-        there: bool,
-        base: u64,
-        length: u64,
-        interval: u64,
-    },
+    /// A file is about to be received.
+    Receiving(Receiving),
     /// So many bytes of a file that comes are safe.
     Mark {
         key: Key,
         offset: u64,
     },
-    /// How a step ended at the node that keeps its outcome. `made` is the number of the Process that a SUBMIT made,
-    /// and 0 for none.
+    /// How a step ended, at the node that keeps its outcome.
     Result {
         key: Key,
-        rc: Rc,
-        cause: Cause,
-        bytes: u64,
-        made: u32,
+        outcomes: Outcomes,
         moment: Moment,
     },
     /// How a step of a Process of this node ended.

@@ -2,5 +2,7 @@
 #![tactic(auto)]
 
 mod entry;
+mod reading;
 
 pub use entry::{Entry, EntryFault};
+pub use reading::read_entry;

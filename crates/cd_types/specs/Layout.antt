@@ -57,8 +57,8 @@ optional a = record {
 }
 
 -- seen as a value that is made of them, where the value and its parts determine each other
-abbrev pub made : {A B : Type 0} (make : A → B) (parts : B → A) → ((x : A) → parts (make x) ≡ x) → ((y : B) → make (parts y) ≡ y) → Layout A → Layout B
-made make parts apart whole a = record {
+abbrev pub seen_as : {A B : Type 0} (make : A → B) (parts : B → A) → ((x : A) → parts (make x) ≡ x) → ((y : B) → make (parts y) ≡ y) → Layout A → Layout B
+seen_as make parts apart whole a = record {
   Form = λ y. a.Form (parts y);
   spelled = λ y. a.spelled (parts y);
   found_in = made_in make a.found_in;

@@ -20,6 +20,7 @@ pub mod Number
 pub mod NumberLaw
 pub mod ProcNo
 pub mod ProcNoLaw
+pub mod Rows
 pub mod Short
 pub mod Text
 pub mod TextLaw

@@ -70,3 +70,29 @@ pub trait Small: Field {
     /// Fewer than 65,536.
     ghost small: { Self.longest < 65536 };
 }
+
+/// Appends two fields, one behind the other. It takes no memory.
+pub fn put_two<A: Field, B: Field>(first: &A, second: &B, into: &mut Vec<u8>)
+    requires first { A.writable first.now }
+    requires second { B.writable second.now }
+    requires room { vec_len into.old + length (A.spelled first.now ++ B.spelled second.now) ≤ vec_capacity into.old }
+    ensures bytes { into.new.items ≡ into.old.items ++ (A.spelled first.now ++ B.spelled second.now) }
+    ensures capacity { vec_capacity into.old ≤ vec_capacity into.new }
+{
+    first.put(into);
+    second.put(into);
+}
+
+/// Appends three fields, one behind the other. It takes no memory.
+pub fn put_three<A: Field, B: Field, C: Field>(first: &A, second: &B, third: &C, into: &mut Vec<u8>)
+    requires first { A.writable first.now }
+    requires second { B.writable second.now }
+    requires third { C.writable third.now }
+    requires room { vec_len into.old + length (A.spelled first.now ++ (B.spelled second.now ++ C.spelled third.now)) ≤ vec_capacity into.old }
+    ensures bytes { into.new.items ≡ into.old.items ++ (A.spelled first.now ++ (B.spelled second.now ++ C.spelled third.now)) }
+    ensures capacity { vec_capacity into.old ≤ vec_capacity into.new }
+{
+    first.put(into);
+    second.put(into);
+    third.put(into);
+}

@@ -15,6 +15,7 @@ mod number;
 mod numbers;
 mod optional;
 mod proc_no;
+mod row_fields;
 mod rows;
 mod short;
 #[cfg(test)]
@@ -23,7 +24,7 @@ mod tests;
 pub use bytes::Bytes;
 pub use card::Filed;
 pub use choices::{Cause, Disp, Hold, How, Queue, Reason, Relation, Retain, Side, TaskKind};
-pub use field::{Field, Small};
+pub use field::{Field, Small, put_three, put_two};
 pub use file_name::{file_front, is_file_name, put_file, put_text, text_front};
 pub use key::Key;
 pub use label::Label;
