@@ -3,3 +3,5 @@ pub mod Digits
 pub mod PlainText
 pub mod Tested
 pub mod Legality
+pub mod Texts
+pub mod Counting

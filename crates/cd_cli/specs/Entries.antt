@@ -29,9 +29,9 @@ live_in entries = count_by (is_live entries) entries
 -- the moment of an entry, or the first one where it has none
 abbrev pub moment_of : Entry → ℕ
 moment_of (entry.Submitted number moment origin card text) = moment
-moment_of (entry.Placed number queue reason due attempts prty moment) = moment
+moment_of (entry.Placed number placing moment) = moment
 moment_of (entry.Started key kind attempt moment) = moment
-moment_of (entry.Result key rc cause bytes made moment) = moment
+moment_of (entry.Result key outcomes moment) = moment
 moment_of (entry.Ended number place rc cause bytes moment) = moment
 moment_of (entry.Closed number how moment) = moment
 moment_of (entry.Dropped key rc cause moment) = moment

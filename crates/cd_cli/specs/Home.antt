@@ -1,5 +1,5 @@
 -- A home: its journal, and the entries that the journal's bytes stand for.
-use Rattle.std.specs.Prelude.{◌≡◌, ◌⊎◌, ℕ, ◌+◌, ◌<◌, List, [], ◌∷◌, ◌++◌, length, map, sum_by, Bool, true, Option, Some, None, Result, Ok, Err, MatchResult, ◌↔◌}
+use Rattle.std.specs.Prelude.{◌≡◌, ◌⊎◌, ℕ, ◌+◌, ◌<◌, List, [], ◌∷◌, ◌++◌, length, map, sum_by, Bool, true, Option, Some, None, Result, Ok, Err, MatchResult, slice_get, ◌↔◌}
 use Rattle.cd_outside.specs.Doubt.{settled}
 use Rattle.cd_outside.specs.Disk.{DiskState}
 use Rattle.cd_journal.specs.Bytes.{list_of}
@@ -54,3 +54,7 @@ pub record IsFirstBad (bodies : List (List ℕ)) (at : ℕ) : Type 0 where
 -- is none, the first byte of the first bad body
 abbrev pub IsUnfit : List ℕ → ℕ → Type 0
 IsUnfit bytes at = MatchResult (list_of bytes) (λ bodies. IsFirstBad bodies at) (λ place. place ≡ at)
+
+-- the body at this index may not follow these entries
+abbrev pub HasBad : List Entry → List (List ℕ) → ℕ → Type 0
+HasBad entries bodies i = (body : List ℕ) × (slice_get bodies i ≡ Some body) × IsBad entries body

@@ -12,3 +12,4 @@ pub mod Legal
 pub mod Turn
 pub mod Home
 pub mod Counts
+pub mod Status

@@ -1,0 +1,18 @@
+-- The line that ends a run.
+use Rattle.std.specs.Prelude.{ℕ, List, [], ◌++◌, codes}
+use Rattle.std.specs.Fmt.{decimal}
+use Rattle.cd_cli.specs.Reply.{line}
+use Rattle.cd_cli.specs.declared.status.Status.{Status}
+use Rattle.cd_cli.specs.declared.status.Status.TheVariants.{Done, Usage, Refused, Unfit, DiskFault, JournalFull, SourceFault, SinkFault, InputLimit, NoMemory}
+
+abbrev pub last_line : Status → List ℕ
+last_line Done = []
+last_line Usage = line (codes "USAGE cdnode [--echo] [--max-turns N]")
+last_line Refused = []
+last_line (Unfit at) = line (codes "UNFIT" ++ codes " " ++ decimal at)
+last_line DiskFault = line (codes "DISK FAULT")
+last_line (JournalFull len) = line (codes "JOURNAL FULL" ++ codes " " ++ decimal len)
+last_line SourceFault = line (codes "INPUT FAULT")
+last_line SinkFault = []
+last_line InputLimit = line (codes "INPUT LIMIT")
+last_line NoMemory = line (codes "NO MEMORY")
