@@ -24,3 +24,4 @@ pub mod Rows
 pub mod Short
 pub mod Text
 pub mod TextLaw
+pub mod Symbols

@@ -91,7 +91,8 @@ fn is_label(text: &[u8]) -> bool
     are_label_bytes(text) && !is_reserved(text)
 }
 
-fn make_upper_case(text: &mut [u8])
+/// Puts the letters into upper case.
+pub(crate) fn make_upper_case(text: &mut [u8])
     ensures { text.new ≡ map to_ascii_uppercase text.old }
 {
     for byte in text.iter_mut() {

@@ -18,6 +18,8 @@ mod proc_no;
 mod row_fields;
 mod rows;
 mod short;
+mod start;
+mod symbols;
 #[cfg(test)]
 mod tests;
 
@@ -34,3 +36,5 @@ pub use node_name::NodeName;
 pub use numbers::Numbers;
 pub use proc_no::ProcNo;
 pub use rows::{Outcomes, Placing, Rc, Receiving, Row};
+pub use start::{Card, Day, Start};
+pub use symbols::Symbols;

@@ -1,0 +1,6 @@
+pub mod Bytes
+pub mod Defaults
+pub mod Laws
+pub mod Pieces
+pub mod Subst
+pub mod Tokens

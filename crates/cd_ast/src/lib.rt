@@ -1,0 +1,14 @@
+//! What a Process text says: the pieces that it is made of, the Process, and the names of its faults.
+#![tactic(auto)]
+
+mod fault;
+mod piece;
+mod process;
+mod refusal;
+mod stmts;
+
+pub use fault::{FaultName, StartRefusal};
+pub use piece::PieceKind;
+pub use process::{CopyStep, Process, Stmt, SubmitStep, TaskStep, What};
+pub use refusal::Refusal;
+pub use stmts::Stmts;
