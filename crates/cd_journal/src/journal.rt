@@ -1,4 +1,4 @@
-ghost use Rattle.std.specs.Prelude.{◌≡◌, ◌≢◌, ℕ, ◌+◌, ◌-◌, ◌*◌, ◌<◌, ◌≤◌, ◌^◌, ◌↔◌, List, [], ◌∷◌, ◌++◌, length, IsTrue, IfOk, OnOk, OnErr, vec_len, vec_capacity, min, max, Some, slice_get, true, false};
+ghost use Rattle.std.specs.Prelude.{◌≡◌, ◌+◌, ◌-◌, ◌*◌, ◌<◌, ◌≤◌, ◌^◌, [], ◌∷◌, ◌++◌, length, IfOk, OnOk, OnErr, vec_len, vec_capacity, min, max, Some, slice_get, true, false};
 ghost use Rattle.cd_outside.specs.Counts.{Rose};
 ghost use Rattle.cd_outside.specs.Doubt.{settled, IsImage};
 ghost use Rattle.cd_outside.specs.Disk.{last_of, LeftAt};
@@ -6,7 +6,6 @@ ghost use Rattle.cd_outside.specs.Moments.{Moments};
 ghost use Rattle.cd_outside.specs.Through.{IsSettledAs};
 ghost use Rattle.cd_journal.specs.Bytes.{header, list_of};
 ghost use Rattle.cd_journal.specs.Fault.{OnDisk, IfFull, IfUnfit, OnNoMemory, sound_after};
-ghost use Rattle.cd_journal.specs.Index.{bodies_in};
 ghost use Rattle.cd_journal.specs.Journal.{length_of, Opens, IsAt, KeepsList, GrowsBy, with_last, IsBeforeOrAfter, entry_block};
 ghost use Rattle.cd_journal.specs.Writing.{opened};
 

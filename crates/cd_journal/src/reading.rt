@@ -1,9 +1,9 @@
 // Reads the bytes of a journal: its header, its gates and its lengths.
-ghost use Rattle.std.specs.Prelude.{◌≡◌, ◌≢◌, ◌⊎◌, ℕ, ◌+◌, ◌<◌, ◌≤◌, ◌^◌, List, [], length, take, drop, IsTrue, IfOk, IfSome, IfNone, Err, Ok, IsErrOf, ⊤};
+ghost use Rattle.std.specs.Prelude.{◌≡◌, ◌+◌, ◌<◌, ◌≤◌, ◌^◌, length, take, IsTrue, IfOk, IfSome, IfNone, Err, Ok};
 ghost use Rattle.std.specs.Option.{SomeIff};
 ghost use Rattle.cd_journal.specs.Bytes.{header, told_length, has_body, list_of};
 ghost use Rattle.cd_journal.specs.Fault.{OnDisk, IfFull, IfUnfit};
-ghost use Rattle.cd_journal.specs.Index.{IsBelow, IsIndexed, IsClosed};
+ghost use Rattle.cd_journal.specs.Index.{IsBelow, IsClosed};
 
 use crate::JournalFault;
 use crate::place::Place;
