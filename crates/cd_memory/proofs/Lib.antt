@@ -1,0 +1,4 @@
+mod Doubtful
+mod Kept
+mod Left
+mod Replay

@@ -1,0 +1,10 @@
+pub mod Feeds
+pub mod Generator
+pub mod Image
+pub mod MemoryDisk
+pub mod MemoryStreams
+pub mod Record
+pub mod SteadyDisk
+pub mod SteadyStreams
+pub mod Stops
+pub mod Tied

@@ -1,0 +1,99 @@
+//! Devices in memory: they tell their content, fail where a script says so, and stop within a call, as a crash would.
+//! Each has a steady form, which never fails within the room that was made for it.
+#![tactic(auto)]
+
+mod bytes;
+mod clock;
+mod content;
+mod count;
+mod disk;
+mod entry;
+mod fate;
+mod feed;
+mod generator;
+mod image;
+mod script;
+mod sink;
+mod source;
+mod steady_disk;
+mod stop;
+mod tally;
+
+pub use clock::{MemoryClock, SteadyClock};
+pub use disk::MemoryDisk;
+pub use generator::Generator;
+pub use script::FaultScript;
+pub use sink::{MemorySink, SteadySink};
+pub use source::{MemorySource, SteadySource};
+pub use steady_disk::SteadyDisk;
+
+#[cfg(test)]
+mod tests {
+    use super::*;
+    use cd_outside::{Beat, Clock, Disk, Sink, Source, sync_now, write_through};
+    use cd_types::Moment;
+    use std::test::Fail;
+
+    // A write goes through; another is stopped within its sync, and the generator with seed 2 draws what it leaves.
+    #[test]
+    fn a_disk_stops(rt: HostRuntime) -> Result<(), Fail> {
+        let alloc = rt.alloc();
+        let mut disk = MemoryDisk::new(alloc, FaultScript::new(Vec::new(alloc)))?;
+        let mut beat = Beat::new();
+        disk.put(&[1, 2, 3])?;
+        sync_now(&mut disk, &mut beat)?;
+        write_through(&mut disk, 3, &[4], &mut beat)?;
+        disk.stop_at(5);
+        assert!(rt; write_through(&mut disk, 0, &[9, 9], &mut beat).is_err());
+        assert!(rt; disk.stopped());
+        assert!(rt; !disk.starved());
+        assert_eq!(rt; disk.bytes(), [9, 9, 3, 4].as_slice());
+        disk.crash(2);
+        assert_eq!(rt; disk.bytes(), [170, 136, 3, 4].as_slice());
+        Ok(())
+    }
+
+    #[test]
+    fn the_steady_forms(rt: HostRuntime) -> Result<(), Fail> {
+        let alloc = rt.alloc();
+        let mut beat = Beat::new();
+        let mut disk = SteadyDisk::new(alloc)?;
+        disk.put(&[1])?;
+        disk.room(3, 2)?;
+        write_through(&mut disk, 1, &[2, 3], &mut beat)?;
+        disk.cut(2, &mut beat)?;
+        assert_eq!(rt; disk.bytes(), [1, 2].as_slice());
+        let mut into = [0, 0];
+        let mut source = SteadySource::new(alloc)?;
+        source.room(1, 1)?;
+        source.feed(&[5])?;
+        assert_eq!(rt; source.read(&mut into)?, 1);
+        let mut sink = SteadySink::new(alloc)?;
+        sink.room(1, 2)?;
+        sink.write(&into)?;
+        assert_eq!(rt; sink.bytes(), [5, 0].as_slice());
+        Ok(())
+    }
+
+    #[test]
+    fn calls_fail_by_the_script(rt: HostRuntime) -> Result<(), Fail> {
+        let alloc = rt.alloc();
+        let mut into = [0, 0];
+        let mut source = MemorySource::new(alloc, FaultScript::new(Vec::from_slice(alloc, &[1])?))?;
+        source.feed(&[5, 6, 7])?;
+        assert!(rt; source.read(&mut into).is_err());
+        assert_eq!(rt; source.read(&mut into)?, 2);
+        assert_eq!(rt; into.as_slice(), [5, 6].as_slice());
+        let mut sink = MemorySink::new(alloc, FaultScript::new(Vec::new(alloc)))?;
+        sink.fail(2)?;
+        sink.write(&into)?;
+        assert!(rt; sink.write(&into).is_err());
+        assert_eq!(rt; sink.bytes(), [5, 6].as_slice());
+        let mut clock = MemoryClock::new(alloc, FaultScript::new(Vec::new(alloc)))?;
+        clock.set(Moment::new(7).ok_or("no moment")?);
+        assert_eq!(rt; clock.now().seconds(), 7);
+        let mut steady = SteadyClock::new(alloc)?;
+        assert_eq!(rt; steady.now().seconds(), 0);
+        Ok(())
+    }
+}
