@@ -1,7 +1,12 @@
 -- The bytes of an entry: a byte for its kind, and the fields of that kind in their order.
-use Rattle.std.specs.Prelude.{◌≡◌, ℕ, Bool, List, [], ◌∷◌, ◌++◌, length, ◌==◌, Option, Some, None, IsSome, Result, Ok, Err, if◌then◌else◌}
+use Rattle.std.specs.Prelude.{◌≡◌, ℕ, Bool, List, [], ◌∷◌, ◌++◌, length, ◌==◌, IsTrue, Option, Some, None, IsSome, Result, Ok, Err, if◌then◌else◌}
+use Rattle.cd_types.specs.Choices.{is_kept}
+use Rattle.cd_types.specs.Compound.{IsOptional}
+use Rattle.cd_types.specs.FileName.{is_file_name, is_text}
 use Rattle.cd_types.specs.Format.{◌>>=◌}
+use Rattle.cd_types.specs.Key.{IsPlace}
 use Rattle.cd_types.specs.Layout.{Layout, ◌⋆◌, optional, number, node_name, proc_no, moment, key, card, file, text, yes_or_no, kept_cause, disp, task_kind, how}
+use Rattle.cd_types.specs.Moment.{IsMoment}
 use Rattle.cd_types.specs.Number.{number_bytes, number_in}
 use Rattle.cd_types.specs.Rows.{placing, outcomes}
 use Rattle.cd_types.specs.declared.card.Filed.{Filed}
@@ -12,6 +17,7 @@ use Rattle.cd_types.specs.declared.choices.TaskKind.{TaskKind}
 use Rattle.cd_types.specs.declared.key.Key.{Key}
 use Rattle.cd_types.specs.declared.rows.Outcomes.{Outcomes}
 use Rattle.cd_types.specs.declared.rows.Placing.{Placing}
+use Rattle.cd_types.specs.declared.rows.Receiving.{Receiving}
 use Rattle.cd_entries.specs.declared.entry.Entry.{Entry}
 use Rattle.cd_entries.specs.declared.entry.Entry.TheVariants as entry
 use Rattle.cd_entries.specs.declared.entry.EntryFault.{EntryFault}
@@ -51,6 +57,10 @@ forgot_fields = node_name ⋆ number 8 ⋆ proc_no
 abbrev pub dropped_fields : Layout (Key × (ℕ × (Cause × ℕ)))
 dropped_fields = key ⋆ number 1 ⋆ kept_cause ⋆ moment
 
+-- the fields of a Receiving
+abbrev pub receiving_bytes : Receiving → List ℕ
+receiving_bytes r = receiving_fields.spelled (r.key, (r.name, (r.disp, (r.there, (r.base, (r.length, r.interval))))))
+
 -- an entry that has bytes: each field is in its range
 abbrev pub IsEntry : Entry → Type 0
 IsEntry (entry.Home name home) = home_fields.Form (name, home)
@@ -65,13 +75,27 @@ IsEntry (entry.Closed number how moment) = closed_fields.Form (number, (how, mom
 IsEntry (entry.Forgot name home number) = forgot_fields.Form (name, (home, number))
 IsEntry (entry.Dropped key rc cause moment) = dropped_fields.Form (key, (rc, (cause, moment)))
 
+-- what a caller has to know of an entry to write it: its fields whose type holds more than their range
+abbrev pub IsWritable : Entry → Type 0
+IsWritable (entry.Home _ _) = Unit {0}
+IsWritable (entry.Submitted _ _ origin _ text) = IsOptional (λ step. IsPlace step.place) origin × IsTrue (is_text text)
+IsWritable (entry.Placed _ placed _) = IsMoment placed.due
+IsWritable (entry.Started step _ _ _) = IsPlace step.place
+IsWritable (entry.Receiving r) = IsPlace r.key.place × IsTrue (is_file_name r.name)
+IsWritable (entry.Mark step _) = IsPlace step.place
+IsWritable (entry.Result step ended _) = IsPlace step.place × IsTrue (is_kept ended.cause)
+IsWritable (entry.Ended _ _ _ cause _ _) = IsTrue (is_kept cause)
+IsWritable (entry.Closed _ _ _) = Unit {0}
+IsWritable (entry.Forgot _ _ _) = Unit {0}
+IsWritable (entry.Dropped step _ cause _) = IsPlace step.place × IsTrue (is_kept cause)
+
 -- its kind's byte, and its fields
 abbrev pub entry_bytes : Entry → List ℕ
 entry_bytes (entry.Home name home) = number_bytes 1 1 ++ home_fields.spelled (name, home)
 entry_bytes (entry.Submitted number moment origin card text) = number_bytes 1 2 ++ submitted_fields.spelled (number, (moment, (origin, (card, text))))
 entry_bytes (entry.Placed number placing moment) = number_bytes 1 3 ++ placed_fields.spelled (number, (placing, moment))
 entry_bytes (entry.Started key kind attempt moment) = number_bytes 1 4 ++ started_fields.spelled (key, (kind, (attempt, moment)))
-entry_bytes (entry.Receiving r) = number_bytes 1 5 ++ receiving_fields.spelled (r.key, (r.name, (r.disp, (r.there, (r.base, (r.length, r.interval))))))
+entry_bytes (entry.Receiving r) = number_bytes 1 5 ++ receiving_bytes r
 entry_bytes (entry.Mark key offset) = number_bytes 1 6 ++ mark_fields.spelled (key, offset)
 entry_bytes (entry.Result key outcomes moment) = number_bytes 1 7 ++ result_fields.spelled (key, (outcomes, moment))
 entry_bytes (entry.Ended number place rc cause bytes moment) = number_bytes 1 8 ++ ended_fields.spelled (number, (place, (rc, (cause, (bytes, moment)))))

@@ -4,76 +4,34 @@ use cd_types::{
 };
 use thiserror::Error;
 
-/// An entry of the journal: one thing that the node did or was told, to be kept over a stop.
+/// An entry of the journal: one thing that the node did or was told, which it knows again after a stop.
 #[derive(Debug, Drop, PartialEq)]
 pub enum Entry {
-    /// The node's name and home identity. It is the first entry, and stands there alone.
-    Home {
-        name: NodeName,
-        home: u64,
-    },
-    /// A Process was submitted, by a command or by the SUBMIT step whose key is its origin. The text is canonical.
-    Submitted {
-        number: ProcNo,
-        moment: Moment,
-        origin: Option<Key>,
-        card: Filed,
-        text: Bytes,
-    },
-    /// A Process went to a queue.
-    Placed {
-        number: ProcNo,
-        placing: Placing,
-        moment: Moment,
-    },
-    /// A task or a job is about to be started, for the time that `attempt` counts.
-    Started {
-        key: Key,
-        kind: TaskKind,
-        attempt: u32,
-        moment: Moment,
-    },
+    /// The node's name and its home identity. It is the first entry, and stands there alone.
+    Home(NodeName, u64),
+    /// A Process was submitted: its number, when, the key of the SUBMIT step that made it where one did, its
+    /// card and its canonical text.
+    Submitted(ProcNo, Moment, Option<Key>, Filed, Bytes),
+    /// A Process went to a queue, and when.
+    Placed(ProcNo, Placing, Moment),
+    /// A task or a job is about to be started: its step, which of the two, how many starts this makes, and when.
+    Started(Key, TaskKind, u32, Moment),
     /// A file is about to be received.
     Receiving(Receiving),
-    /// So many bytes of a file that comes are safe.
-    Mark {
-        key: Key,
-        offset: u64,
-    },
-    /// How a step ended, at the node that keeps its outcome.
-    Result {
-        key: Key,
-        outcomes: Outcomes,
-        moment: Moment,
-    },
-    /// How a step of a Process of this node ended.
-    Ended {
-        number: ProcNo,
-        place: u16,
-        rc: Rc,
-        cause: Cause,
-        bytes: u64,
-        moment: Moment,
-    },
-    /// A Process of this node ended.
-    Closed {
-        number: ProcNo,
-        how: How,
-        moment: Moment,
-    },
-    /// Another node's Process is over, and its keys are not asked for again.
-    Forgot {
-        name: NodeName,
-        home: u64,
-        number: ProcNo,
-    },
-    /// A file that came was dropped, and how its step ended.
-    Dropped {
-        key: Key,
-        rc: Rc,
-        cause: Cause,
-        moment: Moment,
-    },
+    /// So many bytes of the file that a step brings are safe.
+    Mark(Key, u64),
+    /// How a step ended at the node that keeps its outcome, and when.
+    Result(Key, Outcomes, Moment),
+    /// How a step of a Process of this node ended: the Process, the step's place, code and cause, the length of
+    /// what was moved, and when.
+    Ended(ProcNo, u16, Rc, Cause, u64, Moment),
+    /// A Process of this node ended, how, and when.
+    Closed(ProcNo, How, Moment),
+    /// A Process of another node is over: that node's name and home, and the number there. Its keys aren't
+    /// asked for again.
+    Forgot(NodeName, u64, ProcNo),
+    /// A file that came was dropped: its step, with which code and cause that ended, and when.
+    Dropped(Key, Rc, Cause, Moment),
 }
 
 /// Why bytes gave no entry.

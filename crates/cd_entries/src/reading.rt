@@ -3,6 +3,7 @@ ghost use Rattle.std.specs.Prelude.{◌≡◌};
 ghost use Rattle.cd_entries.specs.Entry.{Answers, entry_of, home_of, submitted_of, placed_of, started_of, receiving_of, mark_of, result_of, ended_of, closed_of, forgot_of, dropped_of};
 
 use crate::entry::{Entry, EntryFault};
+use crate::kind;
 use cd_types::{
     Bytes, Cause, Disp, Field, Filed, How, Key, Moment, NoMemory, NodeName, Outcomes, Placing,
     ProcNo, Receiving, TaskKind, file_front, text_front,
@@ -14,21 +15,21 @@ use std::alloc::Global;
 pub fn read_entry(alloc: Global, bytes: &[u8]) -> Result<Entry, EntryFault>
     ensures { Answers result (entry_of bytes.now) }
 {
-    let Some((kind, rest)) = u8::front(bytes) else {
+    let Some((code, rest)) = u8::front(bytes) else {
         return Err(EntryFault::Unfit);
     };
-    match kind {
-        1 => home_of(rest).ok_or(EntryFault::Unfit),
-        2 => submitted_of(alloc, rest),
-        3 => placed_of(rest).ok_or(EntryFault::Unfit),
-        4 => started_of(rest).ok_or(EntryFault::Unfit),
-        5 => receiving_of(alloc, rest),
-        6 => mark_of(rest).ok_or(EntryFault::Unfit),
-        7 => result_of(rest).ok_or(EntryFault::Unfit),
-        8 => ended_of(rest).ok_or(EntryFault::Unfit),
-        9 => closed_of(rest).ok_or(EntryFault::Unfit),
-        10 => forgot_of(rest).ok_or(EntryFault::Unfit),
-        11 => dropped_of(rest).ok_or(EntryFault::Unfit),
+    match code {
+        kind::HOME => home_of(rest).ok_or(EntryFault::Unfit),
+        kind::SUBMITTED => submitted_of(alloc, rest),
+        kind::PLACED => placed_of(rest).ok_or(EntryFault::Unfit),
+        kind::STARTED => started_of(rest).ok_or(EntryFault::Unfit),
+        kind::RECEIVING => receiving_of(alloc, rest),
+        kind::MARK => mark_of(rest).ok_or(EntryFault::Unfit),
+        kind::RESULT => result_of(rest).ok_or(EntryFault::Unfit),
+        kind::ENDED => ended_of(rest).ok_or(EntryFault::Unfit),
+        kind::CLOSED => closed_of(rest).ok_or(EntryFault::Unfit),
+        kind::FORGOT => forgot_of(rest).ok_or(EntryFault::Unfit),
+        kind::DROPPED => dropped_of(rest).ok_or(EntryFault::Unfit),
         _ => Err(EntryFault::Unfit),
     }
 }
@@ -44,7 +45,7 @@ fn home_of(bytes: &[u8]) -> Option<Entry>
     if !rest.is_empty() {
         return None;
     }
-    Some(Entry::Home { name, home })
+    Some(Entry::Home(name, home))
 }
 
 #[tactic(auto, unfolding(crate::specs::Entry::placed_of))]
@@ -61,11 +62,7 @@ fn placed_of(bytes: &[u8]) -> Option<Entry>
     if !rest.is_empty() {
         return None;
     }
-    Some(Entry::Placed {
-        number,
-        placing,
-        moment,
-    })
+    Some(Entry::Placed(number, placing, moment))
 }
 
 #[tactic(auto, unfolding(crate::specs::Entry::started_of))]
@@ -83,12 +80,7 @@ fn started_of(bytes: &[u8]) -> Option<Entry>
     if !rest.is_empty() {
         return None;
     }
-    Some(Entry::Started {
-        key,
-        kind,
-        attempt,
-        moment,
-    })
+    Some(Entry::Started(key, kind, attempt, moment))
 }
 
 #[tactic(auto, unfolding(crate::specs::Entry::mark_of))]
@@ -102,7 +94,7 @@ fn mark_of(bytes: &[u8]) -> Option<Entry>
     if !rest.is_empty() {
         return None;
     }
-    Some(Entry::Mark { key, offset })
+    Some(Entry::Mark(key, offset))
 }
 
 #[tactic(auto, unfolding(crate::specs::Entry::result_of))]
@@ -119,11 +111,7 @@ fn result_of(bytes: &[u8]) -> Option<Entry>
     if !rest.is_empty() {
         return None;
     }
-    Some(Entry::Result {
-        key,
-        outcomes,
-        moment,
-    })
+    Some(Entry::Result(key, outcomes, moment))
 }
 
 #[tactic(auto, unfolding(crate::specs::Entry::ended_of))]
@@ -146,14 +134,7 @@ fn ended_of(bytes: &[u8]) -> Option<Entry>
     if !rest.is_empty() {
         return None;
     }
-    Some(Entry::Ended {
-        number,
-        place,
-        rc,
-        cause,
-        bytes,
-        moment,
-    })
+    Some(Entry::Ended(number, place, rc, cause, bytes, moment))
 }
 
 #[tactic(auto, unfolding(crate::specs::Entry::closed_of))]
@@ -170,11 +151,7 @@ fn closed_of(bytes: &[u8]) -> Option<Entry>
     if !rest.is_empty() {
         return None;
     }
-    Some(Entry::Closed {
-        number,
-        how,
-        moment,
-    })
+    Some(Entry::Closed(number, how, moment))
 }
 
 #[tactic(auto, unfolding(crate::specs::Entry::forgot_of))]
@@ -191,7 +168,7 @@ fn forgot_of(bytes: &[u8]) -> Option<Entry>
     if !rest.is_empty() {
         return None;
     }
-    Some(Entry::Forgot { name, home, number })
+    Some(Entry::Forgot(name, home, number))
 }
 
 #[tactic(auto, unfolding(crate::specs::Entry::dropped_of))]
@@ -212,12 +189,7 @@ fn dropped_of(bytes: &[u8]) -> Option<Entry>
     if !rest.is_empty() {
         return None;
     }
-    Some(Entry::Dropped {
-        key,
-        rc,
-        cause,
-        moment,
-    })
+    Some(Entry::Dropped(key, rc, cause, moment))
 }
 
 #[tactic(auto, unfolding(crate::specs::Entry::submitted_of))]
@@ -243,13 +215,7 @@ fn submitted_of(alloc: Global, bytes: &[u8]) -> Result<Entry, EntryFault>
         return Err(EntryFault::Unfit);
     }
     match Bytes::copy_of(alloc, text) {
-        Ok(text) => Ok(Entry::Submitted {
-            number,
-            moment,
-            origin,
-            card,
-            text,
-        }),
+        Ok(text) => Ok(Entry::Submitted(number, moment, origin, card, text)),
         Err(NoMemory) => Err(EntryFault::NoMemory),
     }
 }

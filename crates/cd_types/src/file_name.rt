@@ -57,6 +57,15 @@ pub fn file_front(bytes: &[u8]) -> Option<(&[u8], &[u8])>
     }
 }
 
+/// How many bytes a file's name has behind its length.
+pub fn file_size(name: &[u8]) -> usize
+    requires { IsTrue (is_file_name name.now) }
+    ensures size { result ≡ length (text_bytes 2 name.now) }
+    ensures short { result ≤ 1026 }
+{
+    2 + name.len()
+}
+
 /// Appends a file's name behind its length. It takes no memory.
 pub fn put_file(name: &[u8], into: &mut Vec<u8>)
     requires name { IsTrue (is_file_name name.now) }
@@ -78,6 +87,15 @@ pub fn text_front(bytes: &[u8]) -> Option<(&[u8], &[u8])>
         return None;
     }
     Some(rest.split_at(len as usize))
+}
+
+/// How many bytes a text has behind its length.
+pub fn text_size(text: &[u8]) -> usize
+    requires { IsTrue (is_text text.now) }
+    ensures size { result ≡ length (text_bytes 4 text.now) }
+    ensures short { result ≤ 4294967299 }
+{
+    4 + text.len()
 }
 
 /// Appends a text behind its length. It takes no memory.

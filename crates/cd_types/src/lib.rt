@@ -27,7 +27,9 @@ pub use bytes::Bytes;
 pub use card::Filed;
 pub use choices::{Cause, Disp, Hold, How, Queue, Reason, Relation, Retain, Side, TaskKind};
 pub use field::{Field, Small, put_three, put_two};
-pub use file_name::{file_front, is_file_name, put_file, put_text, text_front};
+pub use file_name::{
+    file_front, file_size, is_file_name, put_file, put_text, text_front, text_size,
+};
 pub use key::Key;
 pub use label::Label;
 pub use memory::NoMemory;
