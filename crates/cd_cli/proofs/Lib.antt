@@ -5,3 +5,7 @@ pub mod Tested
 pub mod Legality
 pub mod Texts
 pub mod Counting
+pub mod BodyLengths
+pub mod Homes
+pub mod Submitting
+pub mod Loading

@@ -1,22 +1,25 @@
 //! A home: the entries of a journal, and what follows from them.
-ghost use Rattle.std.specs.Prelude.{◌≡◌, ℕ, ◌+◌, ◌≤◌, ◌<◌, ◌++◌, ◌∷◌, [], List, length, map, vec_len, vec_capacity, IsTrue, OnOk, OnErr, IfSome, All, ◌≢◌, ◌↔◌};
+ghost use Rattle.std.specs.Prelude.{◌≡◌, ◌≢◌, ◌⊎◌, ◌+◌, ◌*◌, ◌≤◌, ◌<◌, ◌^◌, ◌++◌, ◌∷◌, [], List, ℕ, length, map, vec_len, vec_capacity, slice_get, true, false, ⊤, Some, IsTrue, IfOk, OnOk, OnErr, IfSome, All, ◌↔◌};
 ghost use Rattle.cd_outside.specs.Counts.{Rose};
 ghost use Rattle.cd_outside.specs.Doubt.{IsImage};
 ghost use Rattle.cd_outside.specs.Disk.{last_of, LeftAt};
 ghost use Rattle.cd_outside.specs.Moments.{Moments};
+ghost use Rattle.cd_journal.specs.Bytes.{list_of};
+ghost use Rattle.cd_journal.specs.Fault.{OnDisk, IfFull, IfUnfit, OnNoMemory};
+ghost use Rattle.cd_journal.specs.Journal.{Opens, IsAt, KeepsList, length_of};
+ghost use Rattle.cd_entries.specs.Entry.{entry_bytes, IsWritable};
 ghost use Rattle.cd_cli.specs.Counts.{AreCounts};
-ghost use Rattle.cd_cli.specs.Entries.{is_submission, moment_of, origin_of};
-ghost use Rattle.cd_cli.specs.Home.{IsBad};
-ghost use Rattle.cd_entries.specs.Entry.{entry_bytes};
-ghost use Rattle.cd_journal.specs.Fault.{OnDisk, IfFull, IfUnfit};
+ghost use Rattle.cd_cli.specs.Entries.{is_submission, submitted_in, live_in, moment_of, latest_in, origin_of};
+ghost use Rattle.cd_cli.specs.Home.{StandsFor, IsHome, IsBad, HasBad, IsUnfit};
 ghost use Rattle.cd_cli.specs.Legal.{IsNext, IsLegal, IsText, IsSubmission, plain_card};
 ghost use Rattle.cd_cli.specs.PlainSeen.{seen_plain};
 
-use cd_entries::{Entry, EntryFault, read_entry};
-use cd_journal::{Journal, JournalFault};
-use cd_types::{Filed, Hold, Key, Moment, ProcNo, Retain};
 use crate::canonical::plain_in;
 use crate::plain::PlainCopy;
+use cd_entries::{Entry, EntryFault, read_entry, write_entry};
+use cd_journal::{Journal, JournalFault};
+use cd_outside::{Beat, Disk};
+use cd_types::{Filed, Hold, Key, Moment, ProcNo, Retain};
 use std::alloc::Global;
 use std::marker::Model;
 
@@ -45,7 +48,7 @@ impl Model for Home {
     ghost invariant = { λ home. AreCounts home.entries.items home.submitted home.latest };
 }
 
-fn plain_card(copy: &PlainCopy<'_>) -> Filed
+pub(crate) fn plain_card(copy: &PlainCopy<'_>) -> Filed
     ensures { result ≡ plain_card (seen_plain copy.now) }
 {
     Filed {
@@ -110,7 +113,7 @@ fn origin_of(entry: &Entry) -> Option<Key>
     ensures { result ≡ origin_of entry.now }
 {
     match entry {
-        Entry::Submitted { origin, .. } => *origin,
+        Entry::Submitted(_, _, origin, _, _) => *origin,
         _ => None,
     }
 }
@@ -134,27 +137,39 @@ fn is_new(entries: &[Entry], origin: &Option<Key>) -> bool
     }
 }
 
+/// There are no entries, so the home has no name yet.
+pub(crate) fn has_none(entries: &[Entry]) -> bool
+    ensures yes { IsTrue result → entries.now ≡ [] }
+    ensures only { entries.now ≡ [] → IsTrue result }
+{
+    match entries {
+        [] => true,
+        _ => false,
+    }
+}
+
 fn is_submission(entry: &Entry) -> bool
     ensures { result ≡ is_submission entry.now }
 {
     match entry {
-        Entry::Submitted { .. } => true,
+        Entry::Submitted(..) => true,
         _ => false,
     }
 }
 
 fn moment_of(entry: &Entry) -> u64
-    ensures { result ≡ moment_of entry.now }
+    ensures moment { result ≡ moment_of entry.now }
+    ensures form { result < 250000000000 }
 {
     match entry {
-        Entry::Submitted { moment, .. } => moment.seconds(),
-        Entry::Placed { moment, .. } => moment.seconds(),
-        Entry::Started { moment, .. } => moment.seconds(),
-        Entry::Result { moment, .. } => moment.seconds(),
-        Entry::Ended { moment, .. } => moment.seconds(),
-        Entry::Closed { moment, .. } => moment.seconds(),
-        Entry::Dropped { moment, .. } => moment.seconds(),
-        Entry::Home { .. } | Entry::Receiving(_) | Entry::Mark { .. } | Entry::Forgot { .. } => 0,
+        Entry::Submitted(_, moment, ..) => moment.seconds(),
+        Entry::Placed(_, _, moment) => moment.seconds(),
+        Entry::Started(_, _, _, moment) => moment.seconds(),
+        Entry::Result(_, _, moment) => moment.seconds(),
+        Entry::Ended(_, _, _, _, _, moment) => moment.seconds(),
+        Entry::Closed(_, _, moment) => moment.seconds(),
+        Entry::Dropped(_, _, _, moment) => moment.seconds(),
+        Entry::Home(..) | Entry::Receiving(_) | Entry::Mark(..) | Entry::Forgot(..) => 0,
     }
 }
 
@@ -186,7 +201,7 @@ impl Home {
         ensures yes { IsTrue result → IsSubmission self.now.entries number moment origin.now card.now text.now }
         ensures only { IsSubmission self.now.entries number moment origin.now card.now text.now → IsTrue result }
     {
-        if self.entries.is_empty() {
+        if has_none(&self.entries) {
             return false;
         }
         if self.submitted >= MOST_LIVE {
@@ -211,23 +226,17 @@ impl Home {
         ensures only { IsNext self.now.entries entry.now → IsTrue result }
     {
         match entry {
-            Entry::Home { .. } => self.entries.is_empty(),
-            Entry::Submitted {
-                number,
-                moment,
-                origin,
-                card,
-                text,
-            } => self.may_submit(*number, *moment, origin, card, text.as_slice()),
-            Entry::Placed { .. }
-            | Entry::Started { .. }
+            Entry::Home(..) => has_none(&self.entries),
+            Entry::Submitted(number, moment, origin, card, text) => self.may_submit(*number, *moment, origin, card, text.as_slice()),
+            Entry::Placed(..)
+            | Entry::Started(..)
             | Entry::Receiving(_)
-            | Entry::Mark { .. }
-            | Entry::Result { .. }
-            | Entry::Ended { .. }
-            | Entry::Closed { .. }
-            | Entry::Forgot { .. }
-            | Entry::Dropped { .. } => false,
+            | Entry::Mark(..)
+            | Entry::Result(..)
+            | Entry::Ended(..)
+            | Entry::Closed(..)
+            | Entry::Forgot(..)
+            | Entry::Dropped(..) => false,
         }
     }
 
@@ -274,8 +283,11 @@ impl Home {
         let mut body = Vec::new(self.alloc);
         let mut at = 13u64;
         for i in 0..self.journal.count() {
-            self.take_entry(disk, i, &mut body, at)?;
-            at += 5 + body.len() as u64;
+            match self.take_entry(disk, i, &mut body, at) {
+                Ok(()) => {}
+                Err(fault) => return Err(fault),
+            }
+            at = at.saturating_add(5 + body.len() as u64);
         }
         Ok(())
     }
@@ -441,5 +453,22 @@ impl Home {
             }
             Err(fault) => Err(fault),
         }
+    }
+
+    /// How many Processes were submitted, which are all live.
+    pub(crate) fn live(&self) -> u32
+        requires { IsLegal self.now.entries }
+        ensures submitted { result ≡ submitted_in self.now.entries }
+        ensures live { result ≡ live_in self.now.entries }
+    {
+        self.submitted
+    }
+
+    /// The latest moment of an entry.
+    pub(crate) fn latest(&self) -> u64
+        ensures value { result ≡ latest_in self.now.entries }
+        ensures form { result < 250000000000 }
+    {
+        self.latest
     }
 }

@@ -7,4 +7,5 @@ mod input;
 mod plain;
 mod reply;
 mod scanner;
+mod status;
 mod words;

@@ -55,9 +55,9 @@ impl Status {
         match self {
             Status::Done | Status::Refused | Status::SinkFault => Ok(Vec::new(alloc)),
             Status::Usage => text(alloc, b"USAGE cdnode [--echo] [--max-turns N]\n"),
-            Status::Unfit(at) => numbered(alloc, "UNFIT", at),
+            Status::Unfit(at) => numbered(alloc, b"UNFIT", at),
             Status::DiskFault => text(alloc, b"DISK FAULT\n"),
-            Status::JournalFull(len) => numbered(alloc, "JOURNAL FULL", len),
+            Status::JournalFull(len) => numbered(alloc, b"JOURNAL FULL", len),
             Status::SourceFault => text(alloc, b"INPUT FAULT\n"),
             Status::InputLimit => text(alloc, b"INPUT LIMIT\n"),
             Status::NoMemory => text(alloc, b"NO MEMORY\n"),
@@ -71,9 +71,11 @@ fn text(alloc: Global, line: &[u8]) -> Result<Vec<u8>, NoMemory>
     Ok(Vec::from_slice(alloc, line)?)
 }
 
-fn numbered(alloc: Global, name: &str, number: u64) -> Result<Vec<u8>, NoMemory>
+fn numbered(alloc: Global, name: &[u8], number: u64) -> Result<Vec<u8>, NoMemory>
     ensures { IfOk result (λ text. text.items ≡ line (name.now ++ codes " " ++ decimal number)) }
 {
-    let line = format!(in alloc; "{name} {number}\n")?;
-    text(alloc, line.as_bytes())
+    let tail = format!(in alloc; " {number}\n")?;
+    let mut text = Vec::from_slice(alloc, name)?;
+    text.extend_from_slice(tail.as_bytes())?;
+    Ok(text)
 }
