@@ -1,6 +1,6 @@
 -- What a home comes to when its journal is made, opened and added to.
 use Rattle.std.proofs.Common.{◌≡◌, ◌⊎◌, inl, inr, ⊎_elim, ℕ, ◌+◌, ◌≤◌, ◌<◌, Bool, true, false, List, [], ◌∷◌, ◌++◌, length, map, Result, Ok, Err, refl, sym, ap, subst, ◌∙◌, arith}
-use Rattle.std.proofs.lemmas.List.{map_push}
+use Rattle.std.proofs.lemmas.List.{map_push, append-nil}
 use Rattle.cd_outside.specs.Doubt.{Doubt, settled, IsImage}
 use Rattle.cd_outside.specs.Disk.{DiskState, last_of, LeftAt}
 use Rattle.cd_outside.specs.Moments.{Moments}
@@ -11,7 +11,10 @@ use Rattle.cd_journal.specs.Journal.{Held, Opens, IsAt, with_last, IsBeforeOrAft
 use Rattle.cd_journal.proofs.Fronts.{list_of-closed, front_header}
 use Rattle.cd_entries.specs.declared.entry.Entry.{Entry}
 use Rattle.cd_entries.specs.Entry.{entry_bytes}
-use Rattle.cd_cli.specs.Home.{HomeState, StandsFor, IsHome}
+use Rattle.cd_cli.specs.Home.{HomeState, StandsFor, IsHome, KeepsEntries}
+use Rattle.cd_cli.specs.Legal.{IsNext, IsLegal}
+use Rattle.cd_cli.specs.Run.{MayLeave}
+use Rattle.cd_cli.proofs.Legality.{legal_push}
 
 none_listed : list_of [] ≡ Ok []
 unfolding list_of
@@ -45,6 +48,10 @@ made_home journal entries disk opens seen none = record {
   rests = opens.rests;
 }
 
+-- and has no place that isn't as it has to be
+pub made_fits : (seen : List ℕ) → seen ≡ header ++ 0 ∷ [] → (at : ℕ) → list_of seen ≡ Err at → ⊥
+made_fits seen made at bad = let h : listed [] ≡ Err at = sym (ap list_of made ∙ list_of-closed header 0 [] [] front_header (omega arith)) ∙ bad in absurd cc
+
 -- a disk without bytes was opened
 pub blank_home : (journal : Held) (entries : List Entry) (disk : DiskState) → Opens journal disk → journal.has_header ≡ false → entries ≡ [] → IsHome (record { journal = journal; entries = entries }) disk
 blank_home journal entries disk opens h none = record {
@@ -68,3 +75,31 @@ pub unchanged : (home : HomeState) (disk : DiskState) (from : ℕ) (e : Entry) �
 unchanged home disk from e is order =
     moments_none disk disk from (λ image. StandsFor image home.entries ⊎ StandsFor image (home.entries ++ e ∷ [])) refl order
       (λ image left. inl (ap list_of (settled_image disk.seen image (subst (λ (d : Doubt). IsImage d image) is.rests left)) ∙ is.list))
+
+-- a list that the entry may follow, with it or without it, keeps the list
+pub keeps_image : (entries : List Entry) (e : Entry) (image : List ℕ) → IsLegal entries → IsNext entries e → StandsFor image entries ⊎ StandsFor image (entries ++ e ∷ []) → KeepsEntries entries image
+keeps_image entries e image legal next left = ⊎_elim
+    (λ same. record { list = entries; stands = same; legal = legal; extends = ([], sym (append-nil entries)) })
+    (λ more. record { list = entries ++ e ∷ []; stands = more; legal = legal_push entries e legal next; extends = (e ∷ [], refl) })
+    left
+
+-- nothing was done in a turn
+pub rests_moments : (home : HomeState) (disk : DiskState) (from : ℕ) → IsLegal home.entries → IsHome home disk → last_of disk.calls ≤ from → Moments (LeftAt disk) (LeftAt disk) from (MayLeave (disk.seen ≡ []) home.entries)
+rests_moments home disk from legal is order =
+    moments_none disk disk from (MayLeave (disk.seen ≡ []) home.entries) refl order
+      (λ image left. inl (record {
+        list = home.entries;
+        stands = ap list_of (settled_image disk.seen image (subst (λ (d : Doubt). IsImage d image) is.rests left)) ∙ is.list;
+        legal = legal;
+        extends = ([], sym (append-nil home.entries));
+      }))
+
+-- with an entry there are bytes
+pub entry_seen : (home : HomeState) (disk : DiskState) (entries : List Entry) (e : Entry) → IsHome home disk → home.entries ≡ entries ++ e ∷ [] → disk.seen ≡ [] → ⊥
+entry_seen home disk entries e is more none =
+    let empty : home.entries ≡ [] = no_entries home.entries (ap list_of (sym none) ∙ is.list) in
+    one_more entries (sym more ∙ empty)
+  where
+    one_more : (l : List Entry) → l ++ e ∷ [] ≡ [] → ⊥
+    one_more [] h = absurd cc
+    one_more (first ∷ l) h = absurd cc

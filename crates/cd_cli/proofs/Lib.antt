@@ -9,3 +9,4 @@ pub mod BodyLengths
 pub mod Homes
 pub mod Submitting
 pub mod Loading
+pub mod Adding

@@ -13,3 +13,4 @@ pub mod Turn
 pub mod Home
 pub mod Counts
 pub mod Status
+pub mod Run

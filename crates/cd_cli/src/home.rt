@@ -436,6 +436,7 @@ impl Home {
         ensures sound { OnOk result (self.new.journal.sound ≡ true) }
         ensures made { P.told → OnOk result (self.new.journal.has_header ≡ true) }
         ensures moments { P.told → Moments (LeftAt (P.state disk.old)) (LeftAt (P.state disk.new)) beat.old (λ image. length image ≤ 9) }
+        ensures unfit { P.told → IfUnfit result (λ _. ⊥) }
         ensures cause { OnDisk result (Rose (P.faults disk.old) (P.faults disk.new)) }
         ensures full { IfFull result (λ _. ⊥) }
         ensures order { P.told → last_of (P.state disk.new).calls ≤ beat.new }

@@ -8,4 +8,5 @@ mod plain;
 mod reply;
 mod scanner;
 mod status;
+mod turn;
 mod words;
