@@ -1,16 +1,19 @@
 -- The law of entries: what is spelled is read, and nothing else is.
-use Rattle.std.proofs.Common.{◌≡◌, ℕ, zero, suc, ◌^◌, ◌<◌, Bool, true, false, cond, nat_eq, List, [], ◌∷◌, ◌++◌, length, Option, Some, None, refl, sym, ap, subst, ◌∙◌, arith, append_assoc}
+use Rattle.std.proofs.Common.{◌≡◌, ℕ, ◌<◌, Bool, true, false, cond, List, [], ◌∷◌, ◌++◌, length, Option, Some, None, refl, sym, ap, subst, ◌∙◌, arith}
 use Rattle.std.specs.Prelude.{◌==◌}
 use Rattle.std.proofs.lemmas.Bool.{eqb-true}
-use Rattle.cd_types.specs.Format.{◌>>=◌, IsBytes, IsFormat}
+use Rattle.cd_types.specs.Format.{IsBytes}
 use Rattle.cd_types.specs.CompoundLaw.{IsBytes-after}
+use Rattle.cd_types.specs.Compound.{IsOptional}
+use Rattle.cd_types.specs.Key.{IsKey, IsPlace}
 use Rattle.cd_types.specs.Layout.{Layout}
-use Rattle.cd_types.specs.Number.{IsNumber, number_bytes, number_in}
+use Rattle.cd_types.specs.declared.key.Key.{Key}
+use Rattle.cd_types.specs.Number.{number_bytes, number_in}
 use Rattle.cd_types.specs.NumberLaw.{number_law}
 use Rattle.cd_types.specs.TextLaw.{bind_some, passed}
 use Rattle.cd_entries.specs.declared.entry.Entry.{Entry}
 use Rattle.cd_entries.specs.declared.entry.Entry.TheVariants as entry
-use Rattle.cd_entries.specs.Entry.{home_fields, submitted_fields, placed_fields, started_fields, receiving_fields, mark_fields, result_fields, ended_fields, closed_fields, forgot_fields, dropped_fields, IsEntry, entry_bytes, whole, home_of, submitted_of, placed_of, started_of, receiving_of, mark_of, result_of, ended_of, closed_of, forgot_of, dropped_of, kinds, of_kind, entry_of}
+use Rattle.cd_entries.specs.Entry.{home_fields, submitted_fields, placed_fields, started_fields, receiving_fields, mark_fields, result_fields, ended_fields, closed_fields, forgot_fields, dropped_fields, IsEntry, IsWritable, entry_bytes, whole, home_of, submitted_of, placed_of, started_of, receiving_of, mark_of, result_of, ended_of, closed_of, forgot_of, dropped_of, kinds, of_kind, entry_of}
 
 -- nothing behind
 nothing : {A : Type 0} (xs : List A) → (length xs == 0) ≡ true → xs ≡ []
@@ -189,3 +192,21 @@ entry_only bytes e fit is =
     let front = (number_law 1).only bytes code.0.0 code.0.1 fit code.1 in
     let rest = of_kind_only kinds code.0.0 code.0.1 e are_kinds (IsBytes-after (number_bytes 1 code.0.0) code.0.1 (subst IsBytes front.0 fit)) code.2 in
     (front.0 ∙ rest.0, rest.1)
+
+origin_place : (origin : Option Key) → IsOptional IsKey origin → IsOptional (λ step. IsPlace step.place) origin
+origin_place None form = tt
+origin_place (Some step) form = form.1.1.1
+
+-- what is read can be written
+pub entry_writable : (e : Entry) → IsEntry e → IsWritable e
+entry_writable (entry.Home name home) form = tt
+entry_writable (entry.Submitted number moment origin card text) form = (origin_place origin form.1.1.0, form.1.1.1.1)
+entry_writable (entry.Placed number placing moment) form = form.1.0.1.1.0
+entry_writable (entry.Started key kind attempt moment) form = form.0.1.1.1
+entry_writable (entry.Receiving r) form = (form.0.1.1.1, form.1.0)
+entry_writable (entry.Mark key offset) form = form.0.1.1.1
+entry_writable (entry.Result key outcomes moment) form = (form.0.1.1.1, form.1.0.1.0.1)
+entry_writable (entry.Ended number place rc cause bytes moment) form = form.1.1.1.0.1
+entry_writable (entry.Closed number how moment) form = tt
+entry_writable (entry.Forgot name home number) form = tt
+entry_writable (entry.Dropped key rc cause moment) form = (form.0.1.1.1, form.1.1.0.1)

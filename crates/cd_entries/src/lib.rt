@@ -5,6 +5,8 @@ mod entry;
 mod kind;
 mod law;
 mod reading;
+#[cfg(test)]
+mod tests;
 mod writing;
 
 pub use entry::{Entry, EntryFault};

@@ -1,6 +1,6 @@
 //! Reading: the fields of each kind, which have to be all of the bytes.
-ghost use Rattle.std.specs.Prelude.{◌≡◌};
-ghost use Rattle.cd_entries.specs.Entry.{Answers, entry_of, home_of, submitted_of, placed_of, started_of, receiving_of, mark_of, result_of, ended_of, closed_of, forgot_of, dropped_of};
+ghost use Rattle.std.specs.Prelude.{◌≡◌, IfOk};
+ghost use Rattle.cd_entries.specs.Entry.{Answers, IsWritable, entry_of, home_of, submitted_of, placed_of, started_of, receiving_of, mark_of, result_of, ended_of, closed_of, forgot_of, dropped_of};
 
 use crate::entry::{Entry, EntryFault};
 use crate::kind;
@@ -11,8 +11,18 @@ use cd_types::{
 use std::alloc::Global;
 
 /// The entry that the bytes are, all of them; Unfit exactly where they are none.
-#[tactic(auto, unfolding(crate::specs::Entry::entry_of))]
 pub fn read_entry(alloc: Global, bytes: &[u8]) -> Result<Entry, EntryFault>
+    ensures entry { Answers result (entry_of bytes.now) }
+    ensures writable { IfOk result IsWritable }
+{
+    match entry_at(alloc, bytes) {
+        Ok(entry) => Ok(entry),
+        Err(fault) => Err(fault),
+    }
+}
+
+#[tactic(auto, unfolding(crate::specs::Entry::entry_of))]
+fn entry_at(alloc: Global, bytes: &[u8]) -> Result<Entry, EntryFault>
     ensures { Answers result (entry_of bytes.now) }
 {
     let Some((code, rest)) = u8::front(bytes) else {

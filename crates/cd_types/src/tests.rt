@@ -3,7 +3,7 @@ ghost use Rattle.std.specs.Prelude.{◌≡◌, IfSome};
 
 use crate::{
     Bytes, Field, Filed, Hold, Key, Label, Moment, NodeName, Numbers, ProcNo, Retain, file_front,
-    is_file_name, put_file, put_text, text_front,
+    file_size, is_file_name, put_file, put_text, text_front, text_size,
 };
 use std::test::Fail;
 
@@ -135,14 +135,16 @@ fn lists(rt: HostRuntime) -> Result<(), Fail> {
 fn texts(rt: HostRuntime) -> Result<(), Fail> {
     let name = b"a.txt".as_slice();
     assert!(rt; is_file_name(name));
-    let mut bytes = Vec::with_capacity(rt.alloc(), 32)?;
+    let text = b"abc".as_slice();
+    let mut bytes = Vec::new(rt.alloc());
+    bytes.reserve(file_size(name) + text_size(text))?;
     put_file(name, &mut bytes);
-    put_text(b"abc", &mut bytes);
+    put_text(text, &mut bytes);
     assert_eq!(rt; bytes.as_slice(), b"\0\x05a.txt\0\0\0\x03abc".as_slice());
     let (file, rest) = file_front(&bytes).ok_or("no file")?;
     assert_eq!(rt; file, name);
-    let (text, rest) = text_front(rest).ok_or("no text")?;
-    assert_eq!(rt; text, b"abc".as_slice());
+    let (found, rest) = text_front(rest).ok_or("no text")?;
+    assert_eq!(rt; found, text);
     assert!(rt; rest.is_empty());
     Ok(())
 }
