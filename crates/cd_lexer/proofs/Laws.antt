@@ -1,13 +1,13 @@
 -- The laws of tokens and of substitution.
-use Rattle.std.proofs.Common.{◌≡◌, ℕ, zero, suc, ◌+◌, ◌-◌, ◌<◌, ◌≤◌, Bool, true, false, ◌&&◌, ◌||◌, List, [], ◌∷◌, ◌++◌, length, take, drop, map, Option, Some, None, Result, Ok, Err, refl, ap, ◌∙◌, sym, arith, append_assoc, append-nil, add_assoc, length-append, subst as along}
-use Rattle.std.specs.Prelude.{if◌then◌else◌, ◌==◌, slice_range, filter, unwrap_or}
+use Rattle.std.proofs.Common.{◌≡◌, ℕ, zero, suc, ◌+◌, ◌-◌, ◌<◌, ◌≤◌, Bool, true, false, ◌&&◌, ◌||◌, List, [], ◌∷◌, ◌++◌, length, take, Option, Some, None, Result, Ok, Err, refl, ap, ◌∙◌, sym, arith, append_assoc, append-nil, add_assoc, length-append}
+use Rattle.std.specs.Prelude.{if◌then◌else◌, ◌==◌, slice_range, unwrap_or}
 use Rattle.std.specs.List.{list_any, flat_map}
 use Rattle.std.proofs.Math.Seq.{drop-append_seam, take-append_seam}
 use Rattle.std.proofs.lemmas.Grind.{flat_map-append}
 use Rattle.cd_ast.specs.declared.piece.PieceKind.{PieceKind}
-use Rattle.cd_ast.specs.Pieces.{Piece, pieces_after, pieces_of, piece_at, bytes_of, run_len}
+use Rattle.cd_ast.specs.Pieces.{Piece, pieces_after, pieces_of, piece_at, bytes_of}
 use Rattle.cd_ast.specs.Tokens.{Span, is_token, spans_from, spans_of}
-use Rattle.cd_ast.specs.Subst.{Part, part_at, parts_after, piece_parts, parts_of, is_read, is_word, begins_with, given_for, before_all, substituted, subst, ends_plain}
+use Rattle.cd_ast.specs.Subst.{Part, part_at, parts_after, piece_parts, parts_of, is_read, is_word, begins_with, given_for, before_all, substituted, subst}
 use Rattle.cd_ast.specs.Laws.{AreInOrder, slices, token_bytes, HaveNoAmpersand, bytes_of_parts, given_bytes}
 use Rattle.cd_lexer.proofs.Whole.{piece_at-length, bytes_of-pieces_after, parts_bytes, parts_bytes-parts_after}
 
@@ -39,10 +39,13 @@ unfolding spans_from bytes_of
 order-spans_from at to [] full e = omega arith
 order-spans_from at to (piece ∷ pieces) full e =
     order-cases at (length piece.bytes) to piece.kind (spans_from (at + length piece.bytes) pieces) (is_token piece.kind) full.0
-        (order-spans_from (at + length piece.bytes) to pieces full.1 (e ∙ rw (length-append piece.bytes (bytes_of pieces), ← add_assoc at (length piece.bytes) (length (bytes_of pieces))) refl))
+    (order-spans_from (at + length piece.bytes) to pieces full.1 (e ∙ rw (length-append piece.bytes (bytes_of pieces), ← add_assoc at (length piece.bytes) (length (bytes_of pieces))) refl))
+
+pub pieces-whole : (text : List ℕ) → bytes_of (pieces_of text) ≡ text
+pieces-whole text = bytes_of-pieces_after 0 _ text
 
 pub tokens-order : (text : List ℕ) → AreInOrder 0 (spans_of text) (length text)
-tokens-order text = order-spans_from 0 (length text) (pieces_of text) (pieces_after-full 0 _ text) (omega (arith, ap length (bytes_of-pieces_after 0 _ text)))
+tokens-order text = order-spans_from 0 (length text) (pieces_of text) (pieces_after-full 0 _ text) (omega (arith, ap length (pieces-whole text)))
 
 -- the slice behind a front
 slice-behind : (front bytes rest : List ℕ) → slice_range (front ++ (bytes ++ rest)) (length front) (length front + length bytes) ≡ bytes
@@ -64,15 +67,12 @@ unfolding spans_from bytes_of
 slices-spans_from front [] text at e p = refl
 slices-spans_from front (piece ∷ pieces) text at e p =
     slices-cases text piece.kind at (at + length piece.bytes) piece.bytes (spans_from (at + length piece.bytes) pieces) pieces (is_token piece.kind)
-        (rw (e, p) (slice-behind front piece.bytes (bytes_of pieces)))
-        (slices-spans_from (front ++ piece.bytes) pieces text (at + length piece.bytes) (e ∙ sym (append_assoc front piece.bytes (bytes_of pieces))) (omega (arith, p, length-append front piece.bytes)))
+    (rw (e, p) (slice-behind front piece.bytes (bytes_of pieces)))
+    (slices-spans_from (front ++ piece.bytes) pieces text (at + length piece.bytes) (e ∙ sym (append_assoc front piece.bytes (bytes_of pieces))) (omega (arith, p, length-append front piece.bytes)))
     ∙ sym (token_bytes-cases piece pieces (is_token piece.kind) refl)
 
 pub tokens-slices : (text : List ℕ) → slices text (spans_of text) ≡ token_bytes (pieces_of text)
 tokens-slices text = slices-spans_from [] (pieces_of text) text 0 (sym (bytes_of-pieces_after 0 _ text)) refl
-
-pub pieces-whole : (text : List ℕ) → bytes_of (pieces_of text) ≡ text
-pieces-whole text = bytes_of-pieces_after 0 _ text
 
 -- the parts of a text are the whole text
 parts_bytes-is : (parts : List Part) → bytes_of_parts parts ≡ parts_bytes parts
@@ -149,7 +149,7 @@ unfolding parts_of
 parts_of-plain [] plain = tt
 parts_of-plain (piece ∷ pieces) plain =
     plain-append (piece_parts piece.kind piece.bytes (bytes_of pieces)) (parts_of pieces)
-        (piece_parts-plain piece.kind piece.bytes (bytes_of pieces) (is_read piece.kind piece.bytes) refl plain.0) (parts_of-plain pieces plain.1)
+    (piece_parts-plain piece.kind piece.bytes (bytes_of pieces) (is_read piece.kind piece.bytes) refl plain.0) (parts_of-plain pieces plain.1)
 
 pub subst-same : (text : List ℕ) (symbols : List (List ℕ × List ℕ)) → HaveNoAmpersand (pieces_of text) → subst text symbols ≡ Ok text
 subst-same text symbols plain = plain-same symbols 0 (parts_of (pieces_of text)) (parts_of-plain (pieces_of text) plain) ∙ ap Ok (parts-whole text)

@@ -12,8 +12,7 @@ pub fn law_of_tokens()
     ensures whole { (text : List ℕ) → bytes_of (pieces_of text) ≡ text }
     ensures slices { (text : List ℕ) → slices text (spans_of text) ≡ token_bytes (pieces_of text) }
     ensures order { (text : List ℕ) → AreInOrder 0 (spans_of text) (length text) }
-{
-}
+{}
 
 /// The parts of a text make it up, and it becomes what each of them gives way to, one after the other: so a value isn't
 /// read again. A text becomes itself where no `&` stands outside comments and the quotes `'`.
@@ -22,5 +21,4 @@ pub fn law_of_substitution()
     ensures once { (text out : List ℕ) (symbols : List (List ℕ × List ℕ)) → subst text symbols ≡ Ok out
         → out ≡ flat_map (given_bytes symbols) (parts_of (pieces_of text)) }
     ensures same { (text : List ℕ) (symbols : List (List ℕ × List ℕ)) → HaveNoAmpersand (pieces_of text) → subst text symbols ≡ Ok text }
-{
-}
+{}

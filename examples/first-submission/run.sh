@@ -1,0 +1,14 @@
+#!/bin/sh
+# Builds the program, gives it its first commands in a fresh folder, and shows what it printed and kept.
+set -e
+here=$(cd "$(dirname "$0")" && pwd)
+program="$here/../../crates/cd_prog"
+(cd "$program" && rt check && rt run -- --help >/dev/null 2>&1 || true)
+cdnode="$program/out/cd_prog"
+[ -x "$cdnode" ] || { echo "the program was not built: run 'rt check' in crates/cd_prog" >&2; exit 1; }
+home=$(mktemp -d)
+cd "$home"
+echo "In the fresh folder $home, cdnode answers:"
+"$cdnode" < "$here/commands"
+echo "It keeps the journal $home/journal, $(wc -c < journal) bytes:"
+od -An -tx1 -v journal
