@@ -83,8 +83,20 @@ card_short p form =
     let f2 = number_bytes 1 10 ++ f3 in
     let f1 = text_bytes 1 p.snode ++ f2 in
     let whole : length (card_bytes (plain_card p)) ≡ length (text_bytes 1 p.name) + length f1 = length-append (text_bytes 1 p.name) f1 in
-    omega (arith, whole, counted 1 p.name, counted 1 p.snode, length-append (text_bytes 1 p.snode) f2, length-append (number_bytes 1 10) f3, length-append (number_bytes 1 1) f4, length-append (number_bytes 1 0) f5, length-append (number_bytes 1 0) f6,
-      number_has_length 1 10, number_has_length 1 1, number_has_length 1 0)
+    omega (
+      arith,
+      whole,
+      counted 1 p.name,
+      counted 1 p.snode,
+      length-append (text_bytes 1 p.snode) f2,
+      length-append (number_bytes 1 10) f3,
+      length-append (number_bytes 1 1) f4,
+      length-append (number_bytes 1 0) f5,
+      length-append (number_bytes 1 0) f6,
+      number_has_length 1 10,
+      number_has_length 1 1,
+      number_has_length 1 0,
+    )
 
 submission_short : (entries : List Entry) (now : ℕ) (p : Plain) → IsPlain p → length (entry_bytes (submission entries now p)) ≤ 262144
 submission_short entries now p form =
@@ -96,8 +108,21 @@ submission_short entries now p form =
     let f1 = number_bytes 8 moment ++ f2 in
     let f0 = number_bytes 4 n ++ f1 in
     let whole : length (entry_bytes (submission entries now p)) ≡ length (number_bytes 1 2) + length f0 = length-append (number_bytes 1 2) f0 in
-    omega (arith, whole, length-append (number_bytes 4 n) f1, length-append (number_bytes 8 moment) f2, length-append (number_bytes 1 0) f3, length-append (card_bytes (plain_card p)) f4, counted 4 (plain_text p), card_short p form, text_short p form,
-      number_has_length 1 2, number_has_length 4 n, number_has_length 8 moment, number_has_length 1 0)
+    omega (
+      arith,
+      whole,
+      length-append (number_bytes 4 n) f1,
+      length-append (number_bytes 8 moment) f2,
+      length-append (number_bytes 1 0) f3,
+      length-append (card_bytes (plain_card p)) f4,
+      counted 4 (plain_text p),
+      card_short p form,
+      text_short p form,
+      number_has_length 1 2,
+      number_has_length 4 n,
+      number_has_length 8 moment,
+      number_has_length 1 0,
+    )
 
 home_short : (name : List ℕ) (home : ℕ) → IsNodeName name → length (entry_bytes (entry.Home name home)) ≤ 262144
 home_short name home form =

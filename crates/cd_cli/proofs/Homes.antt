@@ -74,7 +74,7 @@ pub unchanged : (home : HomeState) (disk : DiskState) (from : ℕ) (e : Entry) �
     → Moments (LeftAt disk) (LeftAt disk) from (λ image. StandsFor image home.entries ⊎ StandsFor image (home.entries ++ e ∷ []))
 unchanged home disk from e is order =
     moments_none disk disk from (λ image. StandsFor image home.entries ⊎ StandsFor image (home.entries ++ e ∷ [])) refl order
-      (λ image left. inl (ap list_of (settled_image disk.seen image (subst (λ (d : Doubt). IsImage d image) is.rests left)) ∙ is.list))
+    (λ image left. inl (ap list_of (settled_image disk.seen image (subst (λ (d : Doubt). IsImage d image) is.rests left)) ∙ is.list))
 
 -- a list that the entry may follow, with it or without it, keeps the list
 pub keeps_image : (entries : List Entry) (e : Entry) (image : List ℕ) → IsLegal entries → IsNext entries e → StandsFor image entries ⊎ StandsFor image (entries ++ e ∷ []) → KeepsEntries entries image
@@ -87,12 +87,12 @@ keeps_image entries e image legal next left = ⊎_elim
 pub rests_moments : (home : HomeState) (disk : DiskState) (from : ℕ) → IsLegal home.entries → IsHome home disk → last_of disk.calls ≤ from → Moments (LeftAt disk) (LeftAt disk) from (MayLeave (disk.seen ≡ []) home.entries)
 rests_moments home disk from legal is order =
     moments_none disk disk from (MayLeave (disk.seen ≡ []) home.entries) refl order
-      (λ image left. inl (record {
-        list = home.entries;
-        stands = ap list_of (settled_image disk.seen image (subst (λ (d : Doubt). IsImage d image) is.rests left)) ∙ is.list;
-        legal = legal;
-        extends = ([], sym (append-nil home.entries));
-      }))
+    (λ image left. inl (record {
+      list = home.entries;
+      stands = ap list_of (settled_image disk.seen image (subst (λ (d : Doubt). IsImage d image) is.rests left)) ∙ is.list;
+      legal = legal;
+      extends = ([], sym (append-nil home.entries));
+    }))
 
 -- with an entry there are bytes
 pub entry_seen : (home : HomeState) (disk : DiskState) (entries : List Entry) (e : Entry) → IsHome home disk → home.entries ≡ entries ++ e ∷ [] → disk.seen ≡ [] → ⊥

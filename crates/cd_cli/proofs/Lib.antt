@@ -10,3 +10,5 @@ pub mod Homes
 pub mod Submitting
 pub mod Loading
 pub mod Adding
+pub mod Going
+pub mod Commands

@@ -1,7 +1,7 @@
 -- The commands of the input. A command begins at its first byte that is neither a blank nor in a comment, and ends with
 -- the first `;` outside quotes and comments. A comment is `/* .. */`, or a line whose first byte is `*`; quoted text
 -- ends at the byte that began it, and has no comments. A command's own first byte begins a line of it.
-use Rattle.std.specs.Prelude.{◌≡◌, ℕ, ◌≤◌, List, [], ◌∷◌, ◌++◌, length, Bool, true, false, ◌||◌, ◌&&◌, ◌==◌, nat_lt, if◌then◌else◌, Option, Some, None}
+use Rattle.std.specs.Prelude.{◌≡◌, ℕ, ◌≤◌, List, [], ◌∷◌, ◌++◌, length, Bool, true, false, ◌||◌, ◌&&◌, ◌==◌, nat_le, nat_lt, if◌then◌else◌, Option, Some, None}
 use Rattle.cd_cli.specs.declared.input.Spot.{Spot}
 use Rattle.cd_cli.specs.declared.input.Spot.TheVariants.{LineStart, Inside, Slash, Quoted, Line, Comment, Star}
 
@@ -99,3 +99,8 @@ is_rest _ = true
 -- what the input's end brings to its end
 abbrev pub end_events : Scan → List Event
 end_events scan = if is_rest scan then Unfinished ∷ [] else []
+
+-- a command has as many bytes as it may, and its end hasn't come
+abbrev pub is_full : Scan → Bool
+is_full (Within spot text) = nat_le 70000 (length text)
+is_full _ = false

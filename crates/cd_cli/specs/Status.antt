@@ -25,3 +25,16 @@ status_of fault.Disk = DiskFault
 status_of (fault.Full len) = JournalFull len
 status_of (fault.Unfit at) = Unfit at
 status_of fault.NoMemory = NoMemory
+
+-- the exit status of the program
+abbrev pub status_code : Status → ℕ
+status_code Done = 0
+status_code Usage = 1
+status_code Refused = 2
+status_code (Unfit at) = 6
+status_code DiskFault = 7
+status_code (JournalFull len) = 8
+status_code SourceFault = 9
+status_code SinkFault = 10
+status_code InputLimit = 11
+status_code NoMemory = 14

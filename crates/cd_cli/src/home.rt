@@ -227,7 +227,13 @@ impl Home {
     {
         match entry {
             Entry::Home(..) => has_none(&self.entries),
-            Entry::Submitted(number, moment, origin, card, text) => self.may_submit(*number, *moment, origin, card, text.as_slice()),
+            Entry::Submitted(number, moment, origin, card, text) => self.may_submit(
+                *number,
+                *moment,
+                origin,
+                card,
+                text.as_slice(),
+            ),
             Entry::Placed(..)
             | Entry::Started(..)
             | Entry::Receiving(_)
@@ -260,7 +266,12 @@ impl Home {
             return Err(JournalFault::Unfit(at));
         }
         self.entries.reserve(1)?;
-        add(&mut self.entries, &mut self.submitted, &mut self.latest, entry);
+        add(
+            &mut self.entries,
+            &mut self.submitted,
+            &mut self.latest,
+            entry,
+        );
         Ok(())
     }
 
@@ -408,7 +419,12 @@ impl Home {
         }
         match self.journal.append(disk, &body, beat) {
             Ok(()) => {
-                add(&mut self.entries, &mut self.submitted, &mut self.latest, entry);
+                add(
+                    &mut self.entries,
+                    &mut self.submitted,
+                    &mut self.latest,
+                    entry,
+                );
                 Ok(())
             }
             Err(fault) => Err(fault),

@@ -6,7 +6,11 @@ mod home;
 mod input;
 mod plain;
 mod reply;
+mod run;
 mod scanner;
 mod status;
 mod turn;
 mod words;
+
+pub use run::run_node;
+pub use status::Status;

@@ -1,7 +1,7 @@
 ghost use Rattle.std.specs.Prelude.{◌≡◌, ◌++◌, codes, IfOk};
 ghost use Rattle.std.specs.Fmt.{decimal};
 ghost use Rattle.cd_cli.specs.Reply.{line};
-ghost use Rattle.cd_cli.specs.Status.{last_line};
+ghost use Rattle.cd_cli.specs.Status.{last_line, status_code};
 
 use cd_types::NoMemory;
 use std::alloc::Global;
@@ -33,7 +33,9 @@ pub enum Status {
 
 impl Status {
     /// The exit status of the program.
-    pub fn code(self) -> u8 {
+    pub fn code(self) -> u8
+        ensures { result ≡ status_code self }
+    {
         match self {
             Status::Done => 0,
             Status::Usage => 1,

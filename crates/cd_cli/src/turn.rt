@@ -84,11 +84,7 @@ fn reply_to(home: &Home, command: &Option<Command<'_>>) -> Reply
 }
 
 // The line of that answer.
-fn line_of(
-    alloc: Global,
-    home: &Home,
-    command: &Option<Command<'_>>,
-) -> Result<Vec<u8>, NoMemory>
+fn line_of(alloc: Global, home: &Home, command: &Option<Command<'_>>) -> Result<Vec<u8>, NoMemory>
     requires { IsLegal home.now.entries }
     ensures { IfOk result (λ text. text.items ≡ reply_text (answer home.now.entries (option_map seen_command command.now))) }
 {
@@ -108,13 +104,7 @@ fn submission(
 {
     let text = plain_text(alloc, copy)?;
     let moment = Moment::latest(now.seconds().max(home.latest()));
-    Ok(Entry::Submitted(
-        number,
-        moment,
-        None,
-        plain_card(copy),
-        Bytes::new(text),
-    ))
+    Ok(Entry::Submitted(number, moment, None, plain_card(copy), Bytes::new(text)))
 }
 
 // What a command adds to the journal.

@@ -34,17 +34,17 @@ returns-in-Ok-clause-moments g c = λ told.
     let f = c.if-is_err.ensures in
     let body = body_is c.write_entry.result c.deref.result.now c.write_entry.new.into.items c.new-body.result.items (entry_bytes c.args.entry) f.negation c.write_entry.ensures.ok c.new-body.ensures.items c.deref.ensures.value in
     moments_weaker (LeftAt (g.P.Disk.state c.args.disk.now)) (LeftAt (g.P.Disk.state c.append.new.disk)) c.args.beat.now
-      (IsBeforeOrAfter (g.P.Disk.state c.args.disk.now).seen c.deref.result.now)
-      (λ image. StandsFor image c.args.self.now.entries ⊎ StandsFor image (c.args.self.now.entries ++ c.args.entry ∷ []))
-      (λ image left. before_or_after c.args.self.now.entries c.args.entry (g.P.Disk.state c.args.disk.now).seen image c.deref.result.now (c.requires.home told).list body left)
-      (c.append.ensures.moments told)
+    (IsBeforeOrAfter (g.P.Disk.state c.args.disk.now).seen c.deref.result.now)
+    (λ image. StandsFor image c.args.self.now.entries ⊎ StandsFor image (c.args.self.now.entries ++ c.args.entry ∷ []))
+    (λ image left. before_or_after c.args.self.now.entries c.args.entry (g.P.Disk.state c.args.disk.now).seen image c.deref.result.now (c.requires.home told).list body left)
+    (c.append.ensures.moments told)
 
 pub returns-in-Err-clause-moments : goal.returns-in-Err-clause-moments
 returns-in-Err-clause-moments g c = λ told.
     let f = c.if-is_err.ensures in
     let body = body_is c.write_entry.result c.deref.result.now c.write_entry.new.into.items c.new-body.result.items (entry_bytes c.args.entry) f.negation c.write_entry.ensures.ok c.new-body.ensures.items c.deref.ensures.value in
     moments_weaker (LeftAt (g.P.Disk.state c.args.disk.now)) (LeftAt (g.P.Disk.state c.append.new.disk)) c.args.beat.now
-      (IsBeforeOrAfter (g.P.Disk.state c.args.disk.now).seen c.deref.result.now)
-      (λ image. StandsFor image c.args.self.now.entries ⊎ StandsFor image (c.args.self.now.entries ++ c.args.entry ∷ []))
-      (λ image left. before_or_after c.args.self.now.entries c.args.entry (g.P.Disk.state c.args.disk.now).seen image c.deref.result.now (c.requires.home told).list body left)
-      (c.append.ensures.moments told)
+    (IsBeforeOrAfter (g.P.Disk.state c.args.disk.now).seen c.deref.result.now)
+    (λ image. StandsFor image c.args.self.now.entries ⊎ StandsFor image (c.args.self.now.entries ++ c.args.entry ∷ []))
+    (λ image left. before_or_after c.args.self.now.entries c.args.entry (g.P.Disk.state c.args.disk.now).seen image c.deref.result.now (c.requires.home told).list body left)
+    (c.append.ensures.moments told)

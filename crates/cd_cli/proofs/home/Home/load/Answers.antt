@@ -22,11 +22,11 @@ returns-in-Err-clause-unfit g c = λ told.
     let disk = g.P.Disk.state c.args.disk.now in
     let entries = c.loop-i.self.entries in
     unfit_moves c.in-Err.fault
-      (λ place. (place ≡ c.loop-i.at) × IfOk (list_of (g.P.Disk.state c.loop-i.disk).seen) (λ bodies. HasBad entries bodies c.loop-i.i))
-      (λ at. IsUnfit disk.seen at)
-      (λ place bad. bad_at (list_of disk.seen) (bodies_in disk.seen c.args.self.now.journal.places) entries c.loop-i.i c.loop-i.at place (c.requires.opens told).list c.loop-i.invariant.legal (c.loop-i.invariant.read told) (c.loop-i.invariant.place told)
-        (bad.0, subst (λ (d : DiskState). IfOk (list_of d.seen) (λ bodies. HasBad entries bodies c.loop-i.i)) (c.loop-i.invariant.same told) bad.1))
-      (w.unfit told)
+    (λ place. (place ≡ c.loop-i.at) × IfOk (list_of (g.P.Disk.state c.loop-i.disk).seen) (λ bodies. HasBad entries bodies c.loop-i.i))
+    (λ at. IsUnfit disk.seen at)
+    (λ place bad. bad_at (list_of disk.seen) (bodies_in disk.seen c.args.self.now.journal.places) entries c.loop-i.i c.loop-i.at place (c.requires.opens told).list c.loop-i.invariant.legal (c.loop-i.invariant.read told) (c.loop-i.invariant.place told)
+    (bad.0, subst (λ (d : DiskState). IfOk (list_of d.seen) (λ bodies. HasBad entries bodies c.loop-i.i)) (c.loop-i.invariant.same told) bad.1))
+    (w.unfit told)
 
 pub loop-i-preserved : goal.loop-i-preserved
 loop-i-preserved g c =

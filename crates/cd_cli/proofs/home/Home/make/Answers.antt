@@ -10,7 +10,7 @@ returns-in-Ok-open-clause-home g c = λ told.
     let disk = g.P.Disk.state c.open.new.disk in
     let none = no_header_entries c.args.self.now (g.P.Disk.state c.args.disk.now) (c.requires.home told) c.requires.header in
     made_home c.in-Ok-open.journal c.self.inside.entries.items disk (c.in-Ok-open.ensures.opens told) (c.in-Ok-open.ensures.same told ∙ (c.in-Ok.ensures.created told).seen)
-      (ap (λ (home : HomeState). home.entries) c.self.view_is ∙ none)
+    (ap (λ (home : HomeState). home.entries) c.self.view_is ∙ none)
 
 pub returns-in-Err-open-clause-unfit : goal.returns-in-Err-open-clause-unfit
 returns-in-Err-open-clause-unfit g c = λ told.

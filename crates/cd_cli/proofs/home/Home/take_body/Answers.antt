@@ -18,7 +18,7 @@ pub returns-clause-ok : goal.returns-clause-ok
 returns-clause-ok c =
     let e = c.in-Ok.entry in
     let same = ap (λ (home : HomeState). home.entries) c.self.view_is in
-    let body = (entry_only c.args.body.now e (λ i. omega (arith, c.type_inv.body i)) c.in-Ok.ensures).0 in
+    let body = (entry_only c.args.body.now e (λ i. omega (arith, c.type_inv.body i)) c.in-Ok.ensures.entry).0 in
     let r = c.in_ok-reserve.ensures in
     bodies_grown c.add.new.entries.items c.args.self.now.entries e c.args.body.now (grown c.add.new.entries.items c.reserve.new.self.items c.self.inside.entries.items c.args.self.now.entries e c.add.ensures.items r.items same) body
 
