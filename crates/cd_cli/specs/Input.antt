@@ -1,7 +1,7 @@
 -- The commands of the input. A command begins at its first byte that is neither a blank nor in a comment, and ends with
 -- the first `;` outside quotes and comments. A comment is `/* .. */`, or a line whose first byte is `*`; quoted text
 -- ends at the byte that began it, and has no comments. A command's own first byte begins a line of it.
-use Rattle.std.specs.Prelude.{◌≡◌, ℕ, ◌≤◌, List, [], ◌∷◌, ◌++◌, length, Bool, true, false, ◌||◌, ◌&&◌, ◌==◌, nat_lt, if◌then◌else◌, Option, Some, None}
+use Rattle.std.specs.Prelude.{◌≡◌, ℕ, ◌≤◌, List, [], ◌∷◌, ◌++◌, length, Bool, true, false, ◌||◌, ◌&&◌, ◌==◌, nat_le, nat_lt, if◌then◌else◌, Option, Some, None}
 use Rattle.cd_cli.specs.declared.input.Spot.{Spot}
 use Rattle.cd_cli.specs.declared.input.Spot.TheVariants.{LineStart, Inside, Slash, Quoted, Line, Comment, Star}
 
@@ -38,10 +38,11 @@ pub data Scan : Type 0 where
   Within : Spot → List ℕ → Scan
   Over : Scan
 
--- what came to its end: a command, or the room for one
+-- What came to its end: a command; the room for one, before its `;` came; or the input, within a command or a comment.
 pub data Event : Type 0 where
   Whole : List ℕ → Event
   TooLong : Event
+  Unfinished : Event
 
 -- one byte more of a command
 abbrev pub within_after : Spot → List ℕ → ℕ → Scan × List Event
@@ -94,3 +95,12 @@ is_rest (Between Inside) = false
 is_rest (Between Line) = false
 is_rest Over = false
 is_rest _ = true
+
+-- what the input's end brings to its end
+abbrev pub end_events : Scan → List Event
+end_events scan = if is_rest scan then Unfinished ∷ [] else []
+
+-- a command has as many bytes as it may, and its end hasn't come
+abbrev pub is_full : Scan → Bool
+is_full (Within spot text) = nat_le 70000 (length text)
+is_full _ = false

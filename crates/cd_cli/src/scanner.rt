@@ -1,5 +1,5 @@
 ghost use Rattle.std.specs.Prelude.{◌≡◌, IfOk, OnErr};
-ghost use Rattle.cd_cli.specs.Input.{begin, scan_after};
+ghost use Rattle.cd_cli.specs.Input.{begin, scan_after, is_rest, is_full};
 ghost use Rattle.cd_cli.specs.Scanner.{events_of, IsBetween, IsWithin};
 
 use crate::input::{MAX_COMMAND, Spot, stays_between};
@@ -66,6 +66,27 @@ impl Scanner {
             Phase::Between => self.take_between(byte),
             Phase::Within => self.take_within(byte),
             Phase::Over => Ok(None),
+        }
+    }
+
+    /// A command has begun, or a comment isn't closed.
+    pub fn is_rest(&self) -> bool
+        ensures { result ≡ is_rest self.now }
+    {
+        match self.phase {
+            Phase::Between => !matches!(self.spot, Spot::LineStart | Spot::Inside | Spot::Line),
+            Phase::Within => true,
+            Phase::Over => false,
+        }
+    }
+
+    /// There is no room for one byte more of the command.
+    pub fn is_full(&self) -> bool
+        ensures { result ≡ is_full self.now }
+    {
+        match self.phase {
+            Phase::Within => self.text.len() >= MAX_COMMAND,
+            Phase::Between | Phase::Over => false,
         }
     }
 
