@@ -3,9 +3,8 @@
 set -e
 here=$(cd "$(dirname "$0")" && pwd)
 program="$here/../../crates/cd_prog"
-(cd "$program" && rt check && rt run -- --help >/dev/null 2>&1 || true)
+(cd "$program" && rt run < /dev/null)
 cdnode="$program/out/cd_prog"
-[ -x "$cdnode" ] || { echo "the program was not built: run 'rt check' in crates/cd_prog" >&2; exit 1; }
 home=$(mktemp -d)
 cd "$home"
 echo "In the fresh folder $home, cdnode answers:"
