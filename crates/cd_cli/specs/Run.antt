@@ -35,6 +35,11 @@ HasReason disk untold sink entry SinkFault = sink
 HasReason disk untold sink entry NoMemory = Unit {0}
 HasReason disk untold sink entry _ = ⊥
 
+-- this holds, unless the output failed
+abbrev pub UnlessSink : Status → Type 0 → Type 0
+UnlessSink SinkFault holds = Unit {0}
+UnlessSink _ holds = holds
+
 -- Why a run ended: it came to its end; or a device failed; the journal's bytes at a place aren't a journal's; an entry doesn't
 -- fit; the input goes on too long; memory ran out.
 abbrev pub EndedBy : Type 0 → (ℕ → Type 0) → Type 0 → Type 0 → Status → Type 0
