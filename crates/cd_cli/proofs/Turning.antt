@@ -1,5 +1,5 @@
 -- Turns, one after the other.
-use Rattle.std.proofs.Common.{length, IfErr, ◌≡◌, ℕ, ◌-◌, List, [], ◌∷◌, ◌++◌, Option, Some, None, option_to_list, Result, Ok, Err, OnOk, IfOk, refl, sym, ap, subst, ◌∙◌, append_assoc}
+use Rattle.std.proofs.Common.{length, IfErr, ◌≡◌, ℕ, ◌-◌, List, [], ◌∷◌, ◌++◌, Option, option_to_list, Result, Ok, Err, OnOk, IfOk, refl, sym, ap, subst, ◌∙◌, append_assoc}
 use Rattle.std.proofs.lemmas.List.{append-nil}
 use Rattle.std.proofs.Math.Seq.{take-nil}
 use Rattle.cd_outside.specs.Streams.{TookFront}
@@ -9,8 +9,8 @@ use Rattle.cd_cli.specs.declared.reply.Reply.{Reply}
 use Rattle.cd_cli.specs.declared.status.Status.{Status}
 use Rattle.cd_cli.specs.declared.status.Status.TheVariants.{Done, Usage, Refused, Unfit, DiskFault, JournalFull, SourceFault, SinkFault, InputLimit, NoMemory}
 use Rattle.cd_cli.specs.Status.{last_line}
-use Rattle.cd_cli.specs.Input.{Event, Whole, TooLong, Unfinished}
-use Rattle.cd_cli.specs.Plain.{Command, command_of}
+use Rattle.cd_cli.specs.Input.{Event}
+use Rattle.cd_cli.specs.Plain.{Command}
 use Rattle.cd_cli.specs.Reply.{reply_text}
 use Rattle.cd_cli.specs.Turn.{Turn, told_by, answer, added, after_turn, after_turns, replies}
 use Rattle.cd_cli.specs.Run.{texts, HasReason, HaveTurned, EndedWell, RanThrough}

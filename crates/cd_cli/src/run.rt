@@ -406,7 +406,9 @@ fn tell_last<O: Sink>(alloc: Global, status: Status, out: &mut O)
 /// Runs the node on the journal: reads commands from the input, and writes a line for each to the output. A submission
 /// gets its number, and is on the disk before the line that acknowledges it is written. It takes no words.
 ///
-/// A crash at any moment leaves a journal that begins with all entries that were kept before it.
+/// A crash at any moment leaves a journal that begins with all entries that were kept before it. A run that comes to its
+/// end made turns, one after the other: they lead from the entries of the journal before it to those of the journal after
+/// it, and the output took the line of each reply, in order.
 pub fn run_node<P: Disk, C: Clock, S: Source, O: Sink>(
     alloc: Global,
     words: &[&str],

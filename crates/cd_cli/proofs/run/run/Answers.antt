@@ -21,7 +21,7 @@ returns-clause-moments g c = λ told.
     run_moments (g.P.Disk.state c.args.journal.now) (g.P.Disk.state c.open.new.disk) (g.P.Disk.state c.serve.new.journal) c.args.beat.now c.open.new.beat c.in-Ok.home
     (c.in-Ok.ensures.home told) (c.in-Ok.ensures.same told) c.in-Ok.ensures.beat (c.in-Ok.ensures.moments told) (c.in-Err.ensures.moments told)
 
--- src/run.rt:331:1
+-- the turns are those of the serving
 pub returns-in-Ok-Done-clause-turned : goal.returns-in-Ok-Done-clause-turned
 returns-in-Ok-Done-clause-turned g c = λ told told_out well. record {
   kept_before = c.in-Ok.home.entries;
@@ -31,7 +31,7 @@ returns-in-Ok-Done-clause-turned g c = λ told told_out well. record {
   turned = c.in-Ok-Done.ensures.turned told_out;
 }
 
--- src/run.rt:331:1
+-- the turns are those of the serving
 pub returns-in-Ok-Refused-clause-turned : goal.returns-in-Ok-Refused-clause-turned
 returns-in-Ok-Refused-clause-turned g c = λ told told_out well. record {
   kept_before = c.in-Ok.home.entries;
