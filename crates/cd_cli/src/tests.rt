@@ -53,7 +53,10 @@ fn run_on(
 fn the_first_commands(rt: HostRuntime) -> Result<(), Fail> {
     assert_eq!(rt; JOURNAL.len(), 202);
     let ran = run_on(rt.alloc(), b"", &[], FIRST, 0)?;
-    assert_eq!(rt; ran.out.bytes(), b"HOME ALPHA 17\nPROCESS 1 SUBMITTED\nSTOPPED\n".as_slice());
+    assert_eq!(rt;
+        ran.out.bytes(),
+        b"HOME ALPHA 17\nPROCESS 1 SUBMITTED\nSTOPPED\n".as_slice()
+    );
     assert_eq!(rt; ran.status, Status::Done);
     assert_eq!(rt; ran.status.code(), 0);
     assert_eq!(rt; ran.disk.bytes(), JOURNAL);
@@ -97,7 +100,10 @@ fn the_output_fails(rt: HostRuntime) -> Result<(), Fail> {
 #[test]
 fn a_word_is_not_taken(rt: HostRuntime) -> Result<(), Fail> {
     let ran = run_on(rt.alloc(), b"", &["--echo"], INIT, 0)?;
-    assert_eq!(rt; ran.out.bytes(), b"USAGE cdnode [--echo] [--max-turns N]\n".as_slice());
+    assert_eq!(rt;
+        ran.out.bytes(),
+        b"USAGE cdnode [--echo] [--max-turns N]\n".as_slice()
+    );
     assert_eq!(rt; ran.status, Status::Usage);
     assert_eq!(rt; ran.status.code(), 1);
     assert_eq!(rt; ran.disk.bytes(), b"".as_slice());
