@@ -12,3 +12,4 @@ pub mod Loading
 pub mod Adding
 pub mod Going
 pub mod Commands
+pub mod Turning

@@ -5,7 +5,7 @@ use Rattle.cd_entries.specs.declared.entry.Entry.{Entry}
 use Rattle.cd_cli.specs.declared.reply.Reply.{Reply}
 use Rattle.cd_entries.specs.Entry.{entry_bytes}
 use Rattle.cd_cli.specs.declared.status.Status.{Status}
-use Rattle.cd_cli.specs.declared.status.Status.TheVariants.{Usage, Unfit, SourceFault, DiskFault, SinkFault, JournalFull, NoMemory}
+use Rattle.cd_cli.specs.declared.status.Status.TheVariants.{Done, Usage, Refused, Unfit, SourceFault, DiskFault, SinkFault, JournalFull, NoMemory}
 use Rattle.cd_outside.specs.Disk.{DiskState, last_of, LeftAt}
 use Rattle.cd_outside.specs.Moments.{Moments}
 use Rattle.cd_outside.specs.Doubt.{IsImage}
@@ -35,6 +35,11 @@ HasReason disk untold sink entry SinkFault = sink
 HasReason disk untold sink entry NoMemory = Unit {0}
 HasReason disk untold sink entry _ = ⊥
 
+-- this holds, unless the output failed
+abbrev pub UnlessSink : Status → Type 0 → Type 0
+UnlessSink SinkFault holds = Unit {0}
+UnlessSink _ holds = holds
+
 -- Why a run ended: it came to its end; or a device failed; the journal's bytes at a place aren't a journal's; an entry doesn't
 -- fit; the input goes on too long; memory ran out.
 abbrev pub EndedBy : Type 0 → (ℕ → Type 0) → Type 0 → Type 0 → Status → Type 0
@@ -60,3 +65,25 @@ pub record GoneOn (entries : List Entry) (before : DiskState) (from : ℕ) (home
 -- leave of a home that had the entries of the journal's bytes at the begin.
 abbrev pub RunMayLeave : DiskState → List ℕ → Type 0
 RunMayLeave before image = IsImage before.doubt image ⊎ ((entries : List Entry) × StandsFor before.seen entries × MayLeave (before.seen ≡ []) entries image)
+
+-- Some turns were made, one after the other: the later entries are those after them, and the output has the line of each
+-- reply, in order.
+pub record HaveTurned (entries : List Entry) (out : List ℕ) (later : List Entry) (now : List ℕ) : Type 0 where
+  pub turns : List Turn
+  pub entries_are : later ≡ after_turns entries turns
+  pub out_is : now ≡ out ++ texts (replies entries turns)
+
+-- the run came to its end
+abbrev pub EndedWell : Status → Type 0
+EndedWell Done = Unit {0}
+EndedWell Refused = Unit {0}
+EndedWell _ = ⊥
+
+-- Turns led from the entries that the journal's bytes stood for to those that they stand for now, and from the output before
+-- to the output now.
+pub record RanThrough (seen : List ℕ) (out : List ℕ) (seen_now : List ℕ) (out_now : List ℕ) : Type 0 where
+  pub kept_before : List Entry
+  pub kept_now : List Entry
+  pub stood : StandsFor seen kept_before
+  pub stands : StandsFor seen_now kept_now
+  pub turned : HaveTurned kept_before out kept_now out_now

@@ -14,3 +14,6 @@ mod words;
 
 pub use run::run_node;
 pub use status::Status;
+
+#[cfg(test)]
+mod tests;

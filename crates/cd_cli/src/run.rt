@@ -3,9 +3,11 @@ ghost use Rattle.std.specs.Prelude.{◌≡◌, ◌≤◌, ◌<◌, [], true, fal
 ghost use Rattle.cd_outside.specs.Counts.{Rose};
 ghost use Rattle.cd_outside.specs.Disk.{last_of, LeftAt};
 ghost use Rattle.cd_outside.specs.Moments.{Moments};
+ghost use Rattle.cd_outside.specs.Streams.{TookFront};
 ghost use Rattle.cd_cli.specs.Home.{IsHome, IsUnfit};
 ghost use Rattle.cd_cli.specs.Legal.{IsLegal};
-ghost use Rattle.cd_cli.specs.Run.{MayLeave, EndedBy, GoneOn, RunMayLeave};
+ghost use Rattle.cd_cli.specs.Run.{MayLeave, EndedBy, GoneOn, RunMayLeave, HaveTurned, EndedWell, RanThrough};
+ghost use Rattle.cd_cli.specs.Status.{last_line};
 
 use crate::home::Home;
 use crate::plain::command_of;
@@ -64,6 +66,8 @@ fn found_turn<P: Disk, C: Clock, O: Sink>(
     ensures legal { OnOk result (IsLegal home.new.entries) }
     ensures sound { OnOk result (home.new.journal.sound ≡ true) }
     ensures goes { P.told → OnOk result (GoneOn home.old.entries (P.state journal.old) beat.old home.new (P.state journal.new) beat.new) }
+    ensures turned { O.told → OnOk result (HaveTurned home.old.entries (O.taken out.old) home.new.entries (O.taken out.new)) }
+    ensures failed { IfErr result (λ status. EndedWell status → ⊥) }
     ensures moments { P.told → OnErr result (Moments (LeftAt (P.state journal.old)) (LeftAt (P.state journal.new)) beat.old (MayLeave ((P.state journal.old).seen ≡ []) home.old.entries)) }
     ensures reason { IfErr result (EndedBy (Rose (P.faults journal.old) (P.faults journal.new)) (λ _. P.told → ⊥) ⊥ (Rose (O.faults out.old) (O.faults out.new))) }
     ensures order { P.told → last_of (P.state journal.new).calls ≤ beat.new }
@@ -75,7 +79,8 @@ fn found_turn<P: Disk, C: Clock, O: Sink>(
         Some(text) => command_of(text),
         None => None,
     };
-    turn(alloc, home, &command, clock.now(), journal, out, beat)
+    let now = clock.now();
+    turn(alloc, home, &command, now, journal, out, beat)
 }
 
 // Takes one byte more, and does the command that came to its end with it. One that is too long ends the run.
@@ -98,6 +103,8 @@ fn byte_turn<P: Disk, C: Clock, O: Sink>(
     ensures legal { OnOk result (IsLegal home.new.entries) }
     ensures sound { OnOk result (home.new.journal.sound ≡ true) }
     ensures goes { P.told → OnOk result (GoneOn home.old.entries (P.state journal.old) beat.old home.new (P.state journal.new) beat.new) }
+    ensures turned { O.told → OnOk result (HaveTurned home.old.entries (O.taken out.old) home.new.entries (O.taken out.new)) }
+    ensures failed { IfErr result (λ status. EndedWell status → ⊥) }
     ensures moments { P.told → OnErr result (Moments (LeftAt (P.state journal.old)) (LeftAt (P.state journal.new)) beat.old (MayLeave ((P.state journal.old).seen ≡ []) home.old.entries)) }
     ensures reason { IfErr result (EndedBy (Rose (P.faults journal.old) (P.faults journal.new)) (λ _. P.told → ⊥) ⊥ (Rose (O.faults out.old) (O.faults out.new))) }
     ensures order { P.told → last_of (P.state journal.new).calls ≤ beat.new }
@@ -142,6 +149,8 @@ fn feed<P: Disk, C: Clock, O: Sink>(
     ensures legal { OnOk result (IsLegal home.new.entries) }
     ensures sound { OnOk result (home.new.journal.sound ≡ true) }
     ensures goes { P.told → OnOk result (GoneOn home.old.entries (P.state journal.old) beat.old home.new (P.state journal.new) beat.new) }
+    ensures turned { O.told → OnOk result (HaveTurned home.old.entries (O.taken out.old) home.new.entries (O.taken out.new)) }
+    ensures failed { IfErr result (λ status. EndedWell status → ⊥) }
     ensures moments { P.told → OnErr result (Moments (LeftAt (P.state journal.old)) (LeftAt (P.state journal.new)) beat.old (MayLeave ((P.state journal.old).seen ≡ []) home.old.entries)) }
     ensures reason { IfErr result (EndedBy (Rose (P.faults journal.old) (P.faults journal.new)) (λ _. P.told → ⊥) ⊥ (Rose (O.faults out.old) (O.faults out.new))) }
     ensures order { P.told → last_of (P.state journal.new).calls ≤ beat.new }
@@ -181,6 +190,8 @@ fn ended<P: Disk, C: Clock, O: Sink>(
     ensures legal { OnOk result (IsLegal home.new.entries) }
     ensures sound { OnOk result (home.new.journal.sound ≡ true) }
     ensures goes { P.told → OnOk result (GoneOn home.old.entries (P.state journal.old) beat.old home.new (P.state journal.new) beat.new) }
+    ensures turned { O.told → OnOk result (HaveTurned home.old.entries (O.taken out.old) home.new.entries (O.taken out.new)) }
+    ensures failed { IfErr result (λ status. EndedWell status → ⊥) }
     ensures moments { P.told → OnErr result (Moments (LeftAt (P.state journal.old)) (LeftAt (P.state journal.new)) beat.old (MayLeave ((P.state journal.old).seen ≡ []) home.old.entries)) }
     ensures reason { IfErr result (EndedBy (Rose (P.faults journal.old) (P.faults journal.new)) (λ _. P.told → ⊥) ⊥ (Rose (O.faults out.old) (O.faults out.new))) }
     ensures order { P.told → last_of (P.state journal.new).calls ≤ beat.new }
@@ -215,6 +226,8 @@ fn passed_limit<P: Disk, C: Clock, O: Sink>(
     ensures legal { OnOk result (IsLegal home.new.entries) }
     ensures sound { OnOk result (home.new.journal.sound ≡ true) }
     ensures goes { P.told → OnOk result (GoneOn home.old.entries (P.state journal.old) beat.old home.new (P.state journal.new) beat.new) }
+    ensures turned { O.told → OnOk result (HaveTurned home.old.entries (O.taken out.old) home.new.entries (O.taken out.new)) }
+    ensures failed { IfErr result (λ status. EndedWell status → ⊥) }
     ensures moments { P.told → OnErr result (Moments (LeftAt (P.state journal.old)) (LeftAt (P.state journal.new)) beat.old (MayLeave ((P.state journal.old).seen ≡ []) home.old.entries)) }
     ensures reason { IfErr result (EndedBy (Rose (P.faults journal.old) (P.faults journal.new)) (λ _. P.told → ⊥) ⊥ (Rose (O.faults out.old) (O.faults out.new))) }
     ensures order { P.told → last_of (P.state journal.new).calls ≤ beat.new }
@@ -252,6 +265,8 @@ fn read_on<P: Disk, C: Clock, S: Source, O: Sink>(
     ensures legal { OnOk result (IsLegal home.new.entries) }
     ensures sound { OnOk result (home.new.journal.sound ≡ true) }
     ensures goes { P.told → OnOk result (GoneOn home.old.entries (P.state journal.old) beat.old home.new (P.state journal.new) beat.new) }
+    ensures turned { O.told → OnOk result (HaveTurned home.old.entries (O.taken out.old) home.new.entries (O.taken out.new)) }
+    ensures failed { IfErr result (λ status. EndedWell status → ⊥) }
     ensures moments { P.told → OnErr result (Moments (LeftAt (P.state journal.old)) (LeftAt (P.state journal.new)) beat.old (MayLeave ((P.state journal.old).seen ≡ []) home.old.entries)) }
     ensures reason { IfErr result (EndedBy (Rose (P.faults journal.old) (P.faults journal.new)) (λ _. P.told → ⊥) (Rose (S.faults input.old) (S.faults input.new)) (Rose (O.faults out.old) (O.faults out.new))) }
     ensures order { P.told → last_of (P.state journal.new).calls ≤ beat.new }
@@ -311,6 +326,8 @@ fn serve<P: Disk, C: Clock, S: Source, O: Sink>(
     ensures legal { OnOk result (IsLegal home.new.entries) }
     ensures sound { OnOk result (home.new.journal.sound ≡ true) }
     ensures goes { P.told → OnOk result (GoneOn home.old.entries (P.state journal.old) beat.old home.new (P.state journal.new) beat.new) }
+    ensures turned { O.told → OnOk result (HaveTurned home.old.entries (O.taken out.old) home.new.entries (O.taken out.new)) }
+    ensures failed { IfErr result (λ status. EndedWell status → ⊥) }
     ensures moments { P.told → OnErr result (Moments (LeftAt (P.state journal.old)) (LeftAt (P.state journal.new)) beat.old (MayLeave ((P.state journal.old).seen ≡ []) home.old.entries)) }
     ensures reason { IfErr result (EndedBy (Rose (P.faults journal.old) (P.faults journal.new)) (λ _. P.told → ⊥) (Rose (S.faults input.old) (S.faults input.new)) (Rose (O.faults out.old) (O.faults out.new))) }
     ensures order { P.told → last_of (P.state journal.new).calls ≤ beat.new }
@@ -354,6 +371,7 @@ fn run<P: Disk, C: Clock, S: Source, O: Sink>(
 ) -> Status
     requires { P.told → last_of (P.state journal.old).calls ≤ beat.old }
     ensures moments { P.told → Moments (LeftAt (P.state journal.old)) (LeftAt (P.state journal.new)) beat.old (RunMayLeave (P.state journal.old)) }
+    ensures turned { P.told → O.told → EndedWell result → RanThrough (P.state journal.old).seen (O.taken out.old) (P.state journal.new).seen (O.taken out.new) }
     ensures reason { EndedBy (Rose (P.faults journal.old) (P.faults journal.new)) (λ at. P.told → IsUnfit (P.state journal.old).seen at) (Rose (S.faults input.old) (S.faults input.new)) (Rose (O.faults out.old) (O.faults out.new)) result }
     ensures order { P.told → last_of (P.state journal.new).calls ≤ beat.new }
     ensures beat { beat.old ≤ beat.new }
@@ -377,7 +395,8 @@ fn run<P: Disk, C: Clock, S: Source, O: Sink>(
 
 // Writes the line that ends a run. Where that fails, the status stands.
 fn tell_last<O: Sink>(alloc: Global, status: Status, out: &mut O)
-    ensures { O.faults out.old ≤ O.faults out.new }
+    ensures taken { O.told → TookFront (O.taken out.old) (last_line status) (O.taken out.new) }
+    ensures later { O.faults out.old ≤ O.faults out.new }
 {
     if let Ok(line) = status.line(alloc) {
         let _ = out.write(&line);
@@ -387,7 +406,9 @@ fn tell_last<O: Sink>(alloc: Global, status: Status, out: &mut O)
 /// Runs the node on the journal: reads commands from the input, and writes a line for each to the output. A submission
 /// gets its number, and is on the disk before the line that acknowledges it is written. It takes no words.
 ///
-/// A crash at any moment leaves a journal that begins with all entries that were kept before it.
+/// A crash at any moment leaves a journal that begins with all entries that were kept before it. A run that comes to its
+/// end made turns, one after the other: they lead from the entries of the journal before it to those of the journal after
+/// it, and the output took the line of each reply, in order.
 pub fn run_node<P: Disk, C: Clock, S: Source, O: Sink>(
     alloc: Global,
     words: &[&str],
@@ -401,6 +422,7 @@ pub fn run_node<P: Disk, C: Clock, S: Source, O: Sink>(
     ensures moments { P.told → Moments (LeftAt (P.state journal.old)) (LeftAt (P.state journal.new)) beat.old (RunMayLeave (P.state journal.old)) }
     ensures usage { 0 < length words.now → result ≡ Status.Usage }
     ensures reason { length words.now ≡ 0 → EndedBy (Rose (P.faults journal.old) (P.faults journal.new)) (λ at. P.told → IsUnfit (P.state journal.old).seen at) (Rose (S.faults input.old) (S.faults input.new)) (Rose (O.faults out.old) (O.faults out.new)) result }
+    ensures turned { length words.now ≡ 0 → P.told → O.told → EndedWell result → RanThrough (P.state journal.old).seen (O.taken out.old) (P.state journal.new).seen (O.taken out.new) }
     ensures order { P.told → last_of (P.state journal.new).calls ≤ beat.new }
     ensures beat { beat.old ≤ beat.new }
 {

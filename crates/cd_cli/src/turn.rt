@@ -11,7 +11,7 @@ ghost use Rattle.cd_cli.specs.Home.{IsHome};
 ghost use Rattle.cd_cli.specs.Legal.{IsLegal, IsNext};
 ghost use Rattle.cd_cli.specs.PlainSeen.{seen_plain, seen_command};
 ghost use Rattle.cd_cli.specs.Reply.{reply_text};
-ghost use Rattle.cd_cli.specs.Run.{MayLeave, HasReason};
+ghost use Rattle.cd_cli.specs.Run.{MayLeave, HasReason, UnlessSink};
 ghost use Rattle.cd_cli.specs.Status.{status_of};
 ghost use Rattle.cd_cli.specs.Turn.{is_named, submission_answer, answer, submission, added, IsFormed, MayKeep};
 
@@ -256,8 +256,9 @@ fn tell<O: Sink>(reply: Reply, text: &[u8], out: &mut O) -> Result<Reply, Status
 }
 
 /// Does one command: decides the answer, keeps what the command adds, and then writes the answer. So what was answered is
-/// on the disk. Where it fails, the run ends, and the output took a front of the answer.
-#[tactic(auto, using(crate::proofs::Homes::rests_moments))]
+/// on the disk. Where it fails, the run ends; the output took a front of the answer where that is what failed, and else
+/// nothing.
+#[tactic(auto, using(crate::proofs::Homes::rests_moments, crate::proofs::Going::unless_sink))]
 pub(crate) fn turn<P: Disk, O: Sink>(
     alloc: Global,
     home: &mut Home,
@@ -275,6 +276,7 @@ pub(crate) fn turn<P: Disk, O: Sink>(
     ensures reply { IfOk result (λ reply. reply ≡ answer home.old.entries (option_map seen_command command.now)) }
     ensures out { O.told → IfOk result (λ reply. O.taken out.new ≡ O.taken out.old ++ reply_text reply) }
     ensures front { O.told → OnErr result (TookFront (O.taken out.old) (reply_text (answer home.old.entries (option_map seen_command command.now))) (O.taken out.new)) }
+    ensures silent { O.told → IfErr result (λ status. UnlessSink status (O.taken out.new ≡ O.taken out.old)) }
     ensures home { P.told → OnOk result (IsHome home.new (P.state journal.new)) }
     ensures kept { OnOk result (home.new.entries ≡ home.old.entries ++ option_to_list (added home.old.entries now (option_map seen_command command.now))) }
     ensures legal { OnOk result (IsLegal home.new.entries) }

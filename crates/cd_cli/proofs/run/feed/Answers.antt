@@ -1,5 +1,6 @@
 use Rattle.std.proofs.Common.{◌≡◌, ℕ, ◌≤◌, sym, ◌∙◌, arith}
 use Rattle.cd_cli.proofs.Going.{gone_none, gone_then, moments_behind}
+use Rattle.cd_cli.proofs.Turning.{turned_none, turned_then}
 use Rattle.cd_cli.proofs.run.feed.Goals as goal
 
 -- the loop's begin
@@ -8,6 +9,7 @@ loop-i-init g c = record {
   legal = c.requires.legal;
   sound = c.requires.sound;
   goes = λ told. gone_none c.args.home.now (g.P.Disk.state c.args.journal.now) c.args.beat.now c.requires.legal (c.requires.home told) (c.requires.order told);
+  turned = λ told. turned_none c.args.home.now.entries (g.O.Sink.taken c.args.out.now);
   order = c.requires.order;
   forward = omega arith;
   later = omega arith;
@@ -17,6 +19,9 @@ loop-i-init g c = record {
 pub returns-in-Ok-Ends-clause-goes : goal.returns-in-Ok-Ends-clause-goes
 returns-in-Ok-Ends-clause-goes g c = λ told.
     gone_then c.args.home.now.entries (g.P.Disk.state c.args.journal.now) (g.P.Disk.state c.loop-i.journal) (g.P.Disk.state c.byte_turn.new.journal) c.args.beat.now c.loop-i.beat c.byte_turn.new.beat c.loop-i.home c.byte_turn.new.home (c.loop-i.invariant.goes told) (c.in-Ok-Ends.ensures.goes told)
+
+pub returns-in-Ok-Ends-clause-turned : goal.returns-in-Ok-Ends-clause-turned
+returns-in-Ok-Ends-clause-turned g c = λ told. turned_then c.args.home.now.entries c.loop-i.home.entries c.byte_turn.new.home.entries (g.O.Sink.taken c.args.out.now) (g.O.Sink.taken c.loop-i.out) (g.O.Sink.taken c.byte_turn.new.out) (c.loop-i.invariant.turned told) (c.in-Ok-Ends.ensures.turned told)
 
 pub returns-in-Err-clause-moments : goal.returns-in-Err-clause-moments
 returns-in-Err-clause-moments g c = λ told.
@@ -29,6 +34,7 @@ loop-i-preserved g c =
       legal = e.legal;
       sound = e.sound;
       goes = λ told. gone_then c.args.home.now.entries (g.P.Disk.state c.args.journal.now) (g.P.Disk.state c.loop-i.journal) (g.P.Disk.state c.byte_turn.new.journal) c.args.beat.now c.loop-i.beat c.byte_turn.new.beat c.loop-i.home c.byte_turn.new.home (c.loop-i.invariant.goes told) (e.goes told);
+      turned = λ told. turned_then c.args.home.now.entries c.loop-i.home.entries c.byte_turn.new.home.entries (g.O.Sink.taken c.args.out.now) (g.O.Sink.taken c.loop-i.out) (g.O.Sink.taken c.byte_turn.new.out) (c.loop-i.invariant.turned told) (e.turned told);
       order = e.order;
       forward = let x = e.beat in let y = c.loop-i.invariant.forward in omega arith;
       later = let x = e.later in let y = c.loop-i.invariant.later in omega arith;
