@@ -1,5 +1,5 @@
 ghost use Rattle.std.specs.Prelude.{◌≡◌, IfOk, OnErr};
-ghost use Rattle.cd_input.specs.Input.{begin, scan_after, is_rest, is_full};
+ghost use Rattle.cd_input.specs.Input.{begin, scan_after, is_rest, is_full, end_events, limit_events};
 ghost use Rattle.cd_input.specs.Scanner.{events_of, IsBetween, IsWithin};
 
 use crate::input::{MAX_COMMAND, Spot, stays_between};
@@ -15,6 +15,8 @@ pub enum Found {
     Command(Vec<u8>),
     /// The room for a command, before its `;` came.
     TooLong,
+    /// The input, within a command or a comment.
+    Unfinished,
 }
 
 /// What the scanner is in the midst of.
@@ -70,7 +72,7 @@ impl Scanner {
     }
 
     /// A command has begun, or a comment isn't closed.
-    pub fn is_rest(&self) -> bool
+    fn is_rest(&self) -> bool
         ensures { result ≡ is_rest self.now }
     {
         match self.phase {
@@ -81,12 +83,34 @@ impl Scanner {
     }
 
     /// There is no room for one byte more of the command.
-    pub fn is_full(&self) -> bool
+    fn is_full(&self) -> bool
         ensures { result ≡ is_full self.now }
     {
         match self.phase {
             Phase::Within => self.text.len() >= MAX_COMMAND,
             Phase::Between | Phase::Over => false,
+        }
+    }
+
+    /// What comes to its end with the input: a rest.
+    pub fn end(&self) -> Option<Found>
+        ensures { events_of result ≡ end_events self.now }
+    {
+        if self.is_rest() {
+            Some(Found::Unfinished)
+        } else {
+            None
+        }
+    }
+
+    /// What comes to its end where the input goes on and nothing more of it is read: a command that has all its room.
+    pub fn over(&self) -> Option<Found>
+        ensures { events_of result ≡ limit_events self.now }
+    {
+        if self.is_full() {
+            Some(Found::TooLong)
+        } else {
+            None
         }
     }
 

@@ -10,5 +10,6 @@ pub mod Homes
 pub mod Submitting
 pub mod Loading
 pub mod Adding
-pub mod Ending
+pub mod Lengths
+pub mod Fitting
 pub mod Commands

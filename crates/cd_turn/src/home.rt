@@ -402,6 +402,8 @@ impl Home {
             (λ image. StandsFor image self.old.entries ⊎ StandsFor image (self.old.entries ++ entry ∷ [])) }
 
         ensures full { IfFull result (λ len. (len ≡ length_of self.old.journal) × (2 ^ 30 < length_of self.old.journal + 5 + length (entry_bytes entry))) }
+        ensures fits { OnOk result (length_of self.old.journal + 5 + length (entry_bytes entry) ≤ 2 ^ 30) }
+        ensures fits_too { OnDisk result (length_of self.old.journal + 5 + length (entry_bytes entry) ≤ 2 ^ 30) }
         ensures full_first { IfFull result (λ _. (disk.new ≡ disk.old) × (beat.new ≡ beat.old)) }
         ensures memory_first { OnNoMemory result ((disk.new ≡ disk.old) × (beat.new ≡ beat.old)) }
         ensures cause { OnDisk result (Rose (P.faults disk.old) (P.faults disk.new)) }

@@ -1,10 +1,5 @@
-ghost use Rattle.std.specs.Prelude.{◌≡◌, ◌++◌, codes, IfOk};
-ghost use Rattle.std.specs.Fmt.{decimal};
-ghost use Rattle.cd_turn.specs.Reply.{line};
-ghost use Rattle.cd_turn.specs.Status.{last_line, status_code};
-
-use cd_types::NoMemory;
-use std::alloc::Global;
+ghost use Rattle.std.specs.Prelude.{◌≡◌};
+ghost use Rattle.cd_turn.specs.Status.{status_code};
 
 /// How a run ended. Places count the journal's bytes.
 #[derive(Clone, Copy, Debug, PartialEq, Eq)]
@@ -49,35 +44,4 @@ impl Status {
             Status::NoMemory => 14,
         }
     }
-
-    /// The line that tells it, which is empty where the replies have told it or nothing can be told.
-    pub fn line(self, alloc: Global) -> Result<Vec<u8>, NoMemory>
-        ensures { IfOk result (λ line. line.items ≡ last_line self) }
-    {
-        match self {
-            Status::Done | Status::Refused | Status::SinkFault => Ok(Vec::new(alloc)),
-            Status::Usage => text(alloc, b"USAGE cdnode [--echo] [--max-turns N]\n"),
-            Status::Unfit(at) => numbered(alloc, b"UNFIT", at),
-            Status::DiskFault => text(alloc, b"DISK FAULT\n"),
-            Status::JournalFull(len) => numbered(alloc, b"JOURNAL FULL", len),
-            Status::SourceFault => text(alloc, b"INPUT FAULT\n"),
-            Status::InputLimit => text(alloc, b"INPUT LIMIT\n"),
-            Status::NoMemory => text(alloc, b"NO MEMORY\n"),
-        }
-    }
-}
-
-fn text(alloc: Global, line: &[u8]) -> Result<Vec<u8>, NoMemory>
-    ensures { IfOk result (λ text. text.items ≡ line.now) }
-{
-    Ok(Vec::from_slice(alloc, line)?)
-}
-
-fn numbered(alloc: Global, name: &[u8], number: u64) -> Result<Vec<u8>, NoMemory>
-    ensures { IfOk result (λ text. text.items ≡ line (name.now ++ codes " " ++ decimal number)) }
-{
-    let tail = format!(in alloc; " {number}\n")?;
-    let mut text = Vec::from_slice(alloc, name)?;
-    text.extend_from_slice(tail.as_bytes())?;
-    Ok(text)
 }

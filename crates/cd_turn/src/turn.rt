@@ -11,7 +11,7 @@ ghost use Rattle.cd_turn.specs.Home.{IsHome};
 ghost use Rattle.cd_turn.specs.Legal.{IsLegal, IsNext};
 ghost use Rattle.cd_turn.specs.PlainSeen.{seen_plain, seen_command};
 ghost use Rattle.cd_turn.specs.Reply.{reply_text};
-ghost use Rattle.cd_turn.specs.Ends.{MayLeave, HasReason, UnlessSink};
+ghost use Rattle.cd_turn.specs.Ends.{MayLeave, journal_length, FitsBehind, HasReason, TookAtEnd};
 ghost use Rattle.cd_turn.specs.Status.{status_of};
 ghost use Rattle.cd_turn.specs.Turn.{is_named, submission_answer, answer, submission, added, IsFormed, MayKeep};
 
@@ -154,6 +154,9 @@ fn kept<P: Disk>(
     ensures moments { P.told → Moments (LeftAt (P.state journal.old)) (LeftAt (P.state journal.new)) beat.old
         (MayLeave ((P.state journal.old).seen ≡ []) home.old.entries) }
     ensures full { IfFull result (λ len. 2 ^ 30 < len + 5 + length (entry_bytes entry)) }
+    ensures full_len { P.told → IfFull result (λ len. len ≡ journal_length home.old.entries) }
+    ensures fits { P.told → OnOk result (FitsBehind home.old.entries (Some entry)) }
+    ensures fits_too { P.told → OnDisk result (FitsBehind home.old.entries (Some entry)) }
     ensures unfit { P.told → IfUnfit result (λ _. ⊥) }
     ensures cause { OnDisk result (Rose (P.faults journal.old) (P.faults journal.new)) }
     ensures order { P.told → last_of (P.state journal.new).calls ≤ beat.new }
@@ -193,7 +196,8 @@ fn keep_entry<P: Disk>(
     ensures moments { P.told → Moments (LeftAt (P.state journal.old)) (LeftAt (P.state journal.new)) beat.old
         (MayLeave ((P.state journal.old).seen ≡ []) home.old.entries) }
     ensures fresh { P.told → OnOk result ((P.state journal.new).seen ≡ [] → ⊥) }
-    ensures reason { IfErr result (HasReason (Rose (P.faults journal.old) (P.faults journal.new)) (P.told → ⊥) ⊥ (Some entry)) }
+    ensures reason { IfErr result (HasReason P.told (Rose (P.faults journal.old) (P.faults journal.new)) ⊥ home.old.entries (Some entry)) }
+    ensures fits { P.told → OnOk result (FitsBehind home.old.entries (Some entry)) }
     ensures order { P.told → last_of (P.state journal.new).calls ≤ beat.new }
     ensures beat { beat.old ≤ beat.new }
     ensures later { P.faults journal.old ≤ P.faults journal.new }
@@ -229,7 +233,8 @@ fn keep_added<P: Disk>(
     ensures moments { P.told → Moments (LeftAt (P.state journal.old)) (LeftAt (P.state journal.new)) beat.old
         (MayLeave ((P.state journal.old).seen ≡ []) home.old.entries) }
     ensures fresh { P.told → OnOk result ((P.state journal.new).seen ≡ [] → (P.state journal.old).seen ≡ []) }
-    ensures reason { IfErr result (HasReason (Rose (P.faults journal.old) (P.faults journal.new)) (P.told → ⊥) ⊥ (added home.old.entries now (option_map seen_command command.now))) }
+    ensures reason { IfErr result (HasReason P.told (Rose (P.faults journal.old) (P.faults journal.new)) ⊥ home.old.entries (added home.old.entries now (option_map seen_command command.now))) }
+    ensures fits { P.told → OnOk result (FitsBehind home.old.entries (added home.old.entries now (option_map seen_command command.now))) }
     ensures order { P.told → last_of (P.state journal.new).calls ≤ beat.new }
     ensures beat { beat.old ≤ beat.new }
     ensures later { P.faults journal.old ≤ P.faults journal.new }
@@ -258,7 +263,7 @@ fn tell<O: Sink>(reply: Reply, text: &[u8], out: &mut O) -> Result<Reply, Status
 /// Does one command: decides the answer, keeps what the command adds, and then writes the answer. So what was answered is
 /// on the disk. Where it fails, the run ends; the output took a front of the answer where that is what failed, and else
 /// nothing.
-#[tactic(auto, using(crate::proofs::Homes::rests_moments, crate::proofs::Ending::unless_sink))]
+#[tactic(auto, using(crate::proofs::Homes::rests_moments))]
 pub fn make_turn<P: Disk, O: Sink>(
     alloc: Global,
     home: &mut Home,
@@ -275,8 +280,7 @@ pub fn make_turn<P: Disk, O: Sink>(
     requires order { P.told → last_of (P.state journal.old).calls ≤ beat.old }
     ensures reply { IfOk result (λ reply. reply ≡ answer home.old.entries (option_map seen_command command.now)) }
     ensures out { O.told → IfOk result (λ reply. O.taken out.new ≡ O.taken out.old ++ reply_text reply) }
-    ensures front { O.told → OnErr result (TookFront (O.taken out.old) (reply_text (answer home.old.entries (option_map seen_command command.now))) (O.taken out.new)) }
-    ensures silent { O.told → IfErr result (λ status. UnlessSink status (O.taken out.new ≡ O.taken out.old)) }
+    ensures took { O.told → IfErr result (λ status. TookAtEnd status (reply_text (answer home.old.entries (option_map seen_command command.now))) (O.taken out.old) (O.taken out.new)) }
     ensures home { P.told → OnOk result (IsHome home.new (P.state journal.new)) }
     ensures kept { OnOk result (home.new.entries ≡ home.old.entries ++ option_to_list (added home.old.entries now (option_map seen_command command.now))) }
     ensures legal { OnOk result (IsLegal home.new.entries) }
@@ -284,7 +288,8 @@ pub fn make_turn<P: Disk, O: Sink>(
     ensures moments { P.told → Moments (LeftAt (P.state journal.old)) (LeftAt (P.state journal.new)) beat.old
         (MayLeave ((P.state journal.old).seen ≡ []) home.old.entries) }
     ensures fresh { P.told → OnOk result ((P.state journal.new).seen ≡ [] → (P.state journal.old).seen ≡ []) }
-    ensures reason { IfErr result (HasReason (Rose (P.faults journal.old) (P.faults journal.new)) (P.told → ⊥) (Rose (O.faults out.old) (O.faults out.new)) (added home.old.entries now (option_map seen_command command.now))) }
+    ensures reason { IfErr result (HasReason P.told (Rose (P.faults journal.old) (P.faults journal.new)) (Rose (O.faults out.old) (O.faults out.new)) home.old.entries (added home.old.entries now (option_map seen_command command.now))) }
+    ensures fits { P.told → OnOk result (FitsBehind home.old.entries (added home.old.entries now (option_map seen_command command.now))) }
     ensures order { P.told → last_of (P.state journal.new).calls ≤ beat.new }
     ensures beat { beat.old ≤ beat.new }
     ensures later { P.faults journal.old ≤ P.faults journal.new }

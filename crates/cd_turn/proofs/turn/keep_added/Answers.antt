@@ -1,4 +1,8 @@
-use Rattle.std.proofs.Common.{◌≡◌, ◌∙◌, sym, Some, option_map}
+use Rattle.std.proofs.Common.{◌≡◌, ◌∙◌, sym, subst, Some, None, Option, option_map, Err}
+use Rattle.std.specs.Prelude.{OnOk, IfErr}
+use Rattle.cd_outside.specs.Counts.{Rose}
+use Rattle.cd_entries.specs.declared.entry.Entry.{Entry}
+use Rattle.cd_turn.specs.Ends.{FitsBehind, HasReason}
 use Rattle.cd_turn.specs.PlainSeen.{seen_command}
 use Rattle.cd_turn.specs.Turn.{added}
 use Rattle.cd_turn.proofs.Adding.{added_may}
