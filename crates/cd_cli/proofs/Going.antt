@@ -7,13 +7,14 @@ use Rattle.cd_outside.specs.Moments.{Moments}
 use Rattle.cd_journal.specs.Bytes.{list_of}
 use Rattle.cd_outside.proofs.Runs.{moments_then, moments_weaker, moments_none}
 use Rattle.cd_entries.specs.declared.entry.Entry.{Entry}
-use Rattle.cd_cli.specs.Home.{HomeState, IsHome, KeepsEntries}
-use Rattle.cd_cli.specs.Legal.{IsLegal, Extends}
-use Rattle.cd_cli.specs.Run.{MayLeave, EndedBy, GoneOn, RunMayLeave, UnlessSink}
-use Rattle.cd_cli.specs.declared.status.Status.{Status}
-use Rattle.cd_cli.specs.declared.status.Status.TheVariants.{Done, Usage, Refused, Unfit, DiskFault, JournalFull, SourceFault, SinkFault, InputLimit, NoMemory}
+use Rattle.cd_turn.specs.Home.{HomeState, IsHome, KeepsEntries}
+use Rattle.cd_turn.specs.Legal.{IsLegal, Extends}
+use Rattle.cd_cli.specs.Run.{EndedBy, GoneOn, RunMayLeave}
+use Rattle.cd_turn.specs.Ends.{MayLeave}
+use Rattle.cd_turn.specs.declared.status.Status.{Status}
+use Rattle.cd_turn.specs.declared.status.Status.TheVariants.{Done, Usage, Refused, Unfit, DiskFault, JournalFull, SourceFault, SinkFault, InputLimit, NoMemory}
 use Rattle.cd_outside.specs.Counts.{Rose}
-use Rattle.cd_cli.proofs.Homes.{rests_moments}
+use Rattle.cd_turn.proofs.Homes.{rests_moments}
 
 pub extends_then : (a b c : List Entry) → Extends a b → Extends b c → Extends a c
 extends_then a b c one two = (one.0 ++ two.0, two.1 ∙ ap (λ (l : List Entry). l ++ two.0) one.1 ∙ append_assoc a one.0 two.0)
@@ -75,19 +76,6 @@ ended_weaker disk disk_more unfit unfit_more source source_more sink sink_more d
 ended_weaker disk disk_more unfit unfit_more source source_more sink sink_more d u s o SinkFault why = o why
 ended_weaker disk disk_more unfit unfit_more source source_more sink sink_more d u s o InputLimit why = tt
 ended_weaker disk disk_more unfit unfit_more source source_more sink sink_more d u s o NoMemory why = tt
-
--- what holds, holds unless the output failed
-pub unless_sink : (holds : Type 0) (status : Status) → holds → UnlessSink status holds
-unless_sink holds Done h = h
-unless_sink holds Usage h = h
-unless_sink holds Refused h = h
-unless_sink holds (Unfit at) h = h
-unless_sink holds DiskFault h = h
-unless_sink holds (JournalFull len) h = h
-unless_sink holds SourceFault h = h
-unless_sink holds SinkFault h = tt
-unless_sink holds InputLimit h = h
-unless_sink holds NoMemory h = h
 
 -- opened, and then gone on
 pub run_moments : (old middle now : DiskState) (from beat : ℕ) (home : HomeState) → IsHome home middle → middle.seen ≡ old.seen → from ≤ beat → Moments (LeftAt old) (LeftAt middle) from (IsImage old.doubt)

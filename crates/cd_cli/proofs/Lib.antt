@@ -1,15 +1,2 @@
-pub mod Places
-pub mod Digits
-pub mod PlainText
-pub mod Tested
-pub mod Legality
-pub mod Texts
-pub mod Counting
-pub mod BodyLengths
-pub mod Homes
-pub mod Submitting
-pub mod Loading
-pub mod Adding
 pub mod Going
-pub mod Commands
 pub mod Turning

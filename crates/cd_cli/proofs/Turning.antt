@@ -5,15 +5,16 @@ use Rattle.std.proofs.Math.Seq.{take-nil}
 use Rattle.cd_outside.specs.Streams.{TookFront}
 use Rattle.std.proofs.lemmas.Grind.{flat_map-append}
 use Rattle.cd_entries.specs.declared.entry.Entry.{Entry}
-use Rattle.cd_cli.specs.declared.reply.Reply.{Reply}
-use Rattle.cd_cli.specs.declared.status.Status.{Status}
-use Rattle.cd_cli.specs.declared.status.Status.TheVariants.{Done, Usage, Refused, Unfit, DiskFault, JournalFull, SourceFault, SinkFault, InputLimit, NoMemory}
-use Rattle.cd_cli.specs.Status.{last_line}
-use Rattle.cd_cli.specs.Input.{Event}
-use Rattle.cd_cli.specs.Plain.{Command}
-use Rattle.cd_cli.specs.Reply.{reply_text}
-use Rattle.cd_cli.specs.Turn.{Turn, told_by, answer, added, after_turn, after_turns, replies}
-use Rattle.cd_cli.specs.Run.{texts, HasReason, HaveTurned, EndedWell, RanThrough}
+use Rattle.cd_turn.specs.declared.reply.Reply.{Reply}
+use Rattle.cd_turn.specs.declared.status.Status.{Status}
+use Rattle.cd_turn.specs.declared.status.Status.TheVariants.{Done, Usage, Refused, Unfit, DiskFault, JournalFull, SourceFault, SinkFault, InputLimit, NoMemory}
+use Rattle.cd_turn.specs.Status.{last_line}
+use Rattle.cd_input.specs.Input.{Event}
+use Rattle.cd_turn.specs.Plain.{Command}
+use Rattle.cd_turn.specs.Reply.{reply_text}
+use Rattle.cd_turn.specs.Turn.{Turn, told_by, answer, added, after_turn, after_turns, replies}
+use Rattle.cd_turn.specs.Ends.{HasReason}
+use Rattle.cd_cli.specs.Run.{texts, HaveTurned, EndedWell, RanThrough}
 
 turns_then : (entries : List Entry) (one two : List Turn) → after_turns entries (one ++ two) ≡ after_turns (after_turns entries one) two
 turns_then entries [] two = refl

@@ -1,16 +1,1 @@
-pub mod Input
-pub mod Scanner
-pub mod Words
-pub mod Upto
-pub mod UptoLaw
-pub mod Reply
-pub mod Plain
-pub mod PlainSeen
-pub mod Canonical
-pub mod Entries
-pub mod Legal
-pub mod Turn
-pub mod Home
-pub mod Counts
-pub mod Status
 pub mod Run

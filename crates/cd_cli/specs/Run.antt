@@ -2,43 +2,24 @@
 use Rattle.std.specs.Prelude.{◌≡◌, ◌⊎◌, ℕ, ◌+◌, ◌^◌, ◌<◌, ◌≤◌, List, [], ◌∷◌, ◌++◌, length, map, Bool, true, false, Option, Some, None, if◌then◌else◌}
 use Rattle.std.specs.List.{flat_map}
 use Rattle.cd_entries.specs.declared.entry.Entry.{Entry}
-use Rattle.cd_cli.specs.declared.reply.Reply.{Reply}
+use Rattle.cd_turn.specs.declared.reply.Reply.{Reply}
 use Rattle.cd_entries.specs.Entry.{entry_bytes}
-use Rattle.cd_cli.specs.declared.status.Status.{Status}
-use Rattle.cd_cli.specs.declared.status.Status.TheVariants.{Done, Usage, Refused, Unfit, SourceFault, DiskFault, SinkFault, JournalFull, NoMemory}
+use Rattle.cd_turn.specs.declared.status.Status.{Status}
+use Rattle.cd_turn.specs.declared.status.Status.TheVariants.{Done, Usage, Refused, Unfit, SourceFault, DiskFault, SinkFault, JournalFull, NoMemory}
 use Rattle.cd_outside.specs.Disk.{DiskState, last_of, LeftAt}
 use Rattle.cd_outside.specs.Moments.{Moments}
 use Rattle.cd_outside.specs.Doubt.{IsImage}
-use Rattle.cd_cli.specs.Home.{HomeState, IsHome, StandsFor, KeepsEntries}
-use Rattle.cd_cli.specs.Legal.{Extends}
-use Rattle.cd_cli.specs.Input.{Event, Whole, TooLong, Unfinished, Scan, begin, events, scanned, end_events}
-use Rattle.cd_cli.specs.Plain.{Command, Stop}
-use Rattle.cd_cli.specs.Reply.{reply_text}
-use Rattle.cd_cli.specs.Turn.{Turn, told_by, after_turns, replies}
-
--- The journal's bytes that a crash may leave: a legal list that has these entries at its front. Where there was no journal
--- and nothing was acknowledged yet, a stop while it is made may leave up to nine bytes of any kind.
-abbrev pub MayLeave : Type 0 → List Entry → List ℕ → Type 0
-MayLeave fresh entries image = KeepsEntries entries image ⊎ (fresh × (entries ≡ []) × (length image ≤ 9))
+use Rattle.cd_turn.specs.Home.{HomeState, IsHome, StandsFor, KeepsEntries}
+use Rattle.cd_turn.specs.Legal.{Extends}
+use Rattle.cd_input.specs.Input.{Event, Whole, TooLong, Unfinished, Scan, begin, events, scanned, end_events}
+use Rattle.cd_turn.specs.Plain.{Command, Stop}
+use Rattle.cd_turn.specs.Reply.{reply_text}
+use Rattle.cd_turn.specs.Ends.{MayLeave}
+use Rattle.cd_turn.specs.Turn.{Turn, told_by, after_turns, replies}
 
 -- the lines of these replies
 abbrev pub texts : List Reply → List ℕ
 texts given = flat_map reply_text given
-
--- Why a turn ended the run: the disk failed; the journal's bytes weren't those that it told; the entry that it adds doesn't
--- fit; the output failed; memory ran out.
-abbrev pub HasReason : Type 0 → Type 0 → Type 0 → Option Entry → Status → Type 0
-HasReason disk untold sink entry DiskFault = disk
-HasReason disk untold sink entry (Unfit at) = untold
-HasReason disk untold sink entry (JournalFull len) = (e : Entry) × (entry ≡ Some e) × (2 ^ 30 < len + 5 + length (entry_bytes e))
-HasReason disk untold sink entry SinkFault = sink
-HasReason disk untold sink entry NoMemory = Unit {0}
-HasReason disk untold sink entry _ = ⊥
-
--- this holds, unless the output failed
-abbrev pub UnlessSink : Status → Type 0 → Type 0
-UnlessSink SinkFault holds = Unit {0}
-UnlessSink _ holds = holds
 
 -- Why a run ended: it came to its end; or a device failed; the journal's bytes at a place aren't a journal's; an entry doesn't
 -- fit; the input goes on too long; memory ran out.

@@ -4,17 +4,18 @@ ghost use Rattle.cd_outside.specs.Counts.{Rose};
 ghost use Rattle.cd_outside.specs.Disk.{last_of, LeftAt};
 ghost use Rattle.cd_outside.specs.Moments.{Moments};
 ghost use Rattle.cd_outside.specs.Streams.{TookFront};
-ghost use Rattle.cd_cli.specs.Home.{IsHome, IsUnfit};
-ghost use Rattle.cd_cli.specs.Legal.{IsLegal};
-ghost use Rattle.cd_cli.specs.Run.{MayLeave, EndedBy, GoneOn, RunMayLeave, HaveTurned, EndedWell, RanThrough};
-ghost use Rattle.cd_cli.specs.Status.{last_line};
+ghost use Rattle.cd_turn.specs.Home.{IsHome, IsUnfit};
+ghost use Rattle.cd_turn.specs.Legal.{IsLegal};
+ghost use Rattle.cd_turn.specs.Ends.{MayLeave};
+ghost use Rattle.cd_cli.specs.Run.{EndedBy, GoneOn, RunMayLeave, HaveTurned, EndedWell, RanThrough};
+ghost use Rattle.cd_turn.specs.Status.{last_line};
 
-use crate::home::Home;
-use crate::plain::command_of;
-use crate::reply::Reply;
-use crate::scanner::{Found, Scanner};
-use crate::status::Status;
-use crate::turn::turn;
+
+use cd_input::{Found, Scanner};
+
+
+
+use cd_turn::{Home, Reply, Status, command_of, make_turn};
 use cd_journal::JournalFault;
 use cd_outside::{Beat, Clock, Disk, Sink, Source};
 use std::alloc::Global;
@@ -49,7 +50,7 @@ fn flow_of(reply: Reply) -> Flow {
 }
 
 // Does the command that came to its end.
-#[tactic(auto, using(crate::proofs::Commands::command_formed))]
+#[tactic(auto, using(cd_turn::proofs::Commands::command_formed))]
 fn found_turn<P: Disk, C: Clock, O: Sink>(
     alloc: Global,
     home: &mut Home,
@@ -80,11 +81,11 @@ fn found_turn<P: Disk, C: Clock, O: Sink>(
         None => None,
     };
     let now = clock.now();
-    turn(alloc, home, &command, now, journal, out, beat)
+    make_turn(alloc, home, &command, now, journal, out, beat)
 }
 
 // Takes one byte more, and does the command that came to its end with it. One that is too long ends the run.
-#[tactic(auto, using(crate::proofs::Homes::rests_moments))]
+#[tactic(auto, using(cd_turn::proofs::Homes::rests_moments))]
 fn byte_turn<P: Disk, C: Clock, O: Sink>(
     alloc: Global,
     home: &mut Home,
@@ -172,7 +173,7 @@ fn feed<P: Disk, C: Clock, O: Sink>(
 }
 
 // The input's end: a command that has begun, or a comment that isn't closed, is none.
-#[tactic(auto, using(crate::proofs::Homes::rests_moments))]
+#[tactic(auto, using(cd_turn::proofs::Homes::rests_moments))]
 fn ended<P: Disk, C: Clock, O: Sink>(
     alloc: Global,
     home: &mut Home,
@@ -209,7 +210,7 @@ fn ended<P: Disk, C: Clock, O: Sink>(
 }
 
 // The input goes on behind the bytes that are read at most: where a command has all its room, it is too long.
-#[tactic(auto, using(crate::proofs::Homes::rests_moments))]
+#[tactic(auto, using(cd_turn::proofs::Homes::rests_moments))]
 fn passed_limit<P: Disk, C: Clock, O: Sink>(
     alloc: Global,
     home: &mut Home,
@@ -245,7 +246,7 @@ fn passed_limit<P: Disk, C: Clock, O: Sink>(
 }
 
 // Reads on, and does the commands in what came. `left` is how many bytes may be read still.
-#[tactic(auto, using(crate::proofs::Homes::rests_moments))]
+#[tactic(auto, using(cd_turn::proofs::Homes::rests_moments))]
 fn read_on<P: Disk, C: Clock, S: Source, O: Sink>(
     alloc: Global,
     home: &mut Home,

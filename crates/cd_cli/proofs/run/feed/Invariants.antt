@@ -1,6 +1,6 @@
 use Rattle.std.proofs.Common.{◌≡◌, ◌≤◌, true}
 use Rattle.cd_outside.specs.Disk.{last_of}
-use Rattle.cd_cli.specs.Legal.{IsLegal}
+use Rattle.cd_turn.specs.Legal.{IsLegal}
 use Rattle.cd_cli.specs.Run.{GoneOn, HaveTurned}
 use Rattle.cd_cli.proofs.run.feed.Given as goal
 

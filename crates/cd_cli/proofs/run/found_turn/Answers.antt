@@ -1,8 +1,8 @@
 use Rattle.std.proofs.Common.{sym, ap, ◌∙◌, option_map}
 use Rattle.cd_outside.specs.Counts.{Rose}
-use Rattle.cd_cli.specs.Turn.{added}
-use Rattle.cd_cli.specs.Input.{Whole, TooLong}
-use Rattle.cd_cli.specs.PlainSeen.{seen_command}
+use Rattle.cd_turn.specs.Turn.{added}
+use Rattle.cd_input.specs.Input.{Whole, TooLong}
+use Rattle.cd_turn.specs.PlainSeen.{seen_command}
 use Rattle.cd_cli.proofs.Turning.{turned_by, turn_failed}
 use Rattle.cd_cli.proofs.run.found_turn.Goals as goal
 use Rattle.cd_cli.proofs.run.found_turn.Goals.{in-Some, in-None}

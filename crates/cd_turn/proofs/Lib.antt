@@ -1,0 +1,15 @@
+pub mod Places
+pub mod Digits
+pub mod PlainText
+pub mod Tested
+pub mod Legality
+pub mod Texts
+pub mod Counting
+pub mod BodyLengths
+pub mod Homes
+pub mod Submitting
+pub mod Loading
+pub mod Adding
+pub mod Lengths
+pub mod Fitting
+pub mod Commands

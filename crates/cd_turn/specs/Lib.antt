@@ -1,0 +1,14 @@
+pub mod Words
+pub mod Upto
+pub mod UptoLaw
+pub mod Reply
+pub mod Plain
+pub mod PlainSeen
+pub mod Canonical
+pub mod Entries
+pub mod Legal
+pub mod Turn
+pub mod Home
+pub mod Counts
+pub mod Status
+pub mod Ends

@@ -1,0 +1,94 @@
+//! What the node answers to a command.
+ghost use Rattle.std.specs.Prelude.{◌≡◌, IfOk, string_bytes};
+ghost use Rattle.cd_turn.specs.Reply.{reply_text, refusal_text, is_refused};
+
+use cd_types::{NoMemory, NodeName, ProcNo};
+use std::alloc::Global;
+
+/// Why a command wasn't done. It then changed nothing.
+#[derive(Clone, Copy, Debug, PartialEq, Eq)]
+pub enum Refusal {
+    /// It is no command that is built.
+    NotYet,
+    /// The home has no name yet, and the command needs one.
+    NotHome,
+    /// The home has a name already.
+    AlreadyHome,
+    /// There are as many live Processes as there may be, which is this many.
+    Full(u32),
+}
+
+/// The answer to a command. Each is printed as a line.
+#[derive(Clone, Copy, Debug, PartialEq, Eq)]
+pub enum Reply {
+    /// The home has this name and this number from now on.
+    Home(NodeName, u64),
+    /// The Process was submitted, and has this number for good.
+    Submitted(ProcNo),
+    /// The run ends.
+    Stopped,
+    /// The command wasn't done.
+    Refused(Refusal),
+}
+
+fn home_text(alloc: Global, name: NodeName, home: u64) -> Result<Vec<u8>, NoMemory>
+    ensures { IfOk result (λ text. text.items ≡ reply_text (Reply.Home name home)) }
+{
+    let tail = format!(in alloc; " {home}\n")?;
+    let mut text = Vec::from_slice(alloc, b"HOME ")?;
+    text.extend_from_slice(name.as_bytes())?;
+    text.extend_from_slice(tail.as_bytes())?;
+    Ok(text)
+}
+
+impl Refusal {
+    fn text(self, alloc: Global) -> Result<String, NoMemory>
+        ensures { IfOk result (λ text. string_bytes text ≡ refusal_text self) }
+    {
+        let text = match self {
+            Refusal::NotYet => String::from_str(alloc, "NOTYET")?,
+            Refusal::NotHome => String::from_str(alloc, "NOTHOME")?,
+            Refusal::AlreadyHome => String::from_str(alloc, "ALREADYHOME")?,
+            Refusal::Full(most) => format!(in alloc; "FULL {most}")?,
+        };
+        Ok(text)
+    }
+}
+
+fn refused_text(alloc: Global, refusal: Refusal) -> Result<Vec<u8>, NoMemory>
+    ensures { IfOk result (λ text. text.items ≡ reply_text (Reply.Refused refusal)) }
+{
+    let why = refusal.text(alloc)?;
+    let mut text = Vec::from_slice(alloc, b"REFUSED ")?;
+    text.extend_from_slice(why.as_bytes())?;
+    text.push(b'\n')?;
+    Ok(text)
+}
+
+fn submitted_text(alloc: Global, number: u32) -> Result<Vec<u8>, NoMemory>
+    ensures { IfOk result (λ text. text.items ≡ reply_text (Reply.Submitted number)) }
+{
+    let text = format!(in alloc; "PROCESS {number} SUBMITTED\n")?;
+    Ok(Vec::from_slice(alloc, text.as_bytes())?)
+}
+
+impl Reply {
+    /// Its line.
+    pub fn text(self, alloc: Global) -> Result<Vec<u8>, NoMemory>
+        ensures { IfOk result (λ text. text.items ≡ reply_text self) }
+    {
+        match self {
+            Reply::Home(name, home) => home_text(alloc, name, home),
+            Reply::Submitted(number) => submitted_text(alloc, number.number()),
+            Reply::Stopped => Ok(Vec::from_slice(alloc, b"STOPPED\n")?),
+            Reply::Refused(refusal) => refused_text(alloc, refusal),
+        }
+    }
+
+    /// The command was refused.
+    pub fn is_refused(self) -> bool
+        ensures { result ≡ is_refused self }
+    {
+        matches!(self, Reply::Refused(_))
+    }
+}
