@@ -2,6 +2,8 @@ pub mod Content
 pub mod Counts
 pub mod Disk
 pub mod Doubt
+pub mod Files
 pub mod Moments
+pub mod Shelf
 pub mod Streams
 pub mod Through

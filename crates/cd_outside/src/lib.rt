@@ -5,11 +5,13 @@
 mod beat;
 mod disk;
 mod failed;
+mod files;
 mod streams;
 mod through;
 
 pub use beat::Beat;
 pub use disk::Disk;
 pub use failed::Failed;
+pub use files::Files;
 pub use streams::{Clock, Sink, Source};
 pub use through::{sync_now, write_through};
