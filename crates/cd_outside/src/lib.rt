@@ -6,6 +6,9 @@ mod beat;
 mod disk;
 mod failed;
 mod files;
+mod lines;
+mod sid;
+mod spawner;
 mod streams;
 mod through;
 
@@ -13,5 +16,8 @@ pub use beat::Beat;
 pub use disk::Disk;
 pub use failed::Failed;
 pub use files::Files;
+pub use lines::{ConnectFault, Lines};
+pub use sid::Sid;
+pub use spawner::{Outcome, Spawner};
 pub use streams::{Clock, Sink, Source};
 pub use through::{sync_now, write_through};
