@@ -56,7 +56,7 @@ outside_ranges (range ∷ ranges) place outside = (λ i. outside_range place ran
 sure_from : (doubt : Doubt) (place : ℕ) → place < doubt.least → IsOutside doubt.ranges place → is_doubtful doubt place ≡ false
 sure_from doubt place lt outside = (λ i. lt-leb doubt.least place lt i || list_any (is_within place) doubt.ranges) ∙ outside_ranges doubt.ranges place outside
 
-image_from_is : (x : ℕ) (doubt : Doubt) → doubt.least ≤ doubt.greatest → IsImage doubt (image_from x doubt)
+pub image_from_is : (x : ℕ) (doubt : Doubt) → doubt.least ≤ doubt.greatest → IsImage doubt (image_from x doubt)
 image_from_is x doubt order =
     let m = doubt.greatest - doubt.least + 1 in
     let count = doubt.least + drawn (step x) m in

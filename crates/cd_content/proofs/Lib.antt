@@ -1,4 +1,6 @@
 mod Doubtful
+mod FileImages
 mod Kept
 mod Left
 mod Replay
+mod Written

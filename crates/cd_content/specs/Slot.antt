@@ -24,6 +24,7 @@ pub record IsTidy (a : Inside) : Type 0 where
   -- what a read gives may be left by a crash, where a missing file counts as one without bytes
   pub image : IsImage (doubt_in a).bytes a.seen.items
   pub missing : a.exists ≡ false → a.seen.items ≡ []
+  pub absent : a.there ≡ false → a.base.items ≡ []
   pub still : a.moved ≡ false → a.there ≡ a.exists
   -- what the last sync left is of a length between
   pub base_from : a.least ≤ length a.base.items

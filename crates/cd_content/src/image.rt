@@ -1,8 +1,9 @@
 // The images that a crash may leave, made by the generator.
-ghost use Rattle.std.specs.Prelude.{◌≡◌, ◌<◌, ◌≤◌, ◌^◌, length, vec_capacity};
+ghost use Rattle.std.specs.Prelude.{◌≡◌, ◌<◌, ◌≤◌, ◌^◌, [], false, length, vec_capacity};
 ghost use Rattle.std.specs.List.{list_any};
 ghost use Rattle.cd_content.specs.Generator.{is_within, is_doubtful, byte_at, number_at, bytes_from, image_from, left_by};
-ghost use Rattle.cd_content.specs.Image.{doubt_in};
+ghost use Rattle.cd_content.specs.Image.{doubt_in, file_doubt};
+ghost use Rattle.cd_content.specs.FileImage.{given_file, is_left_of, after_is_left_of, file_from, file_left_by};
 
 use crate::Generator;
 use crate::bytes::replace_within;
@@ -84,5 +85,62 @@ pub fn leave(seen: &mut Vec<u8>, doubt: InDoubt<'_>, image: u64)
         0 => replace_within(seen, doubt.base),
         1 => {}
         seed => fill(seen, doubt, Generator::new(seed)),
+    }
+}
+
+/// Whether a drawn image has the file.
+fn draw_file(there: bool, moved: bool, generator: &mut Generator) -> bool
+    ensures left { result ≡ is_left_of there moved generator.old }
+    ensures number { generator.new ≡ after_is_left_of moved generator.old }
+{
+    if moved { generator.draw(2) == 1 } else { there }
+}
+
+/// Leaves a drawn image in place of what a read gives, and tells whether there is a file.
+fn draw(seen: &mut Vec<u8>, there: bool, moved: bool, doubt: InDoubt<'_>, seed: u64) -> bool
+    requires least { doubt.least ≤ length doubt.base.now }
+    requires greatest { length doubt.base.now ≤ doubt.greatest }
+    requires range { doubt.greatest < 2 ^ 63 }
+    requires room { doubt.greatest ≤ vec_capacity seen.old }
+    ensures file { given_file result seen.new.items ≡ file_from seed (file_doubt there moved doubt.entry) }
+    ensures missing { result ≡ false → seen.new.items ≡ [] }
+    ensures room { vec_capacity seen.old ≤ vec_capacity seen.new }
+{
+    let mut generator = Generator::new(seed);
+    let is_left = draw_file(there, moved, &mut generator);
+    if is_left {
+        fill(seen, doubt, generator);
+    } else {
+        seen.clear();
+    }
+    is_left
+}
+
+/// Leaves the image of that number in place of what a read gives of a file, and tells whether there is one. The marks
+/// tell whether there was a file at the last sync, whether its making or removal is in doubt, and whether there is one.
+pub fn leave_file(
+    seen: &mut Vec<u8>,
+    marks: (bool, bool, bool),
+    doubt: InDoubt<'_>,
+    image: u64,
+) -> bool
+    requires least { doubt.least ≤ length doubt.base.now }
+    requires greatest { length doubt.base.now ≤ doubt.greatest }
+    requires range { doubt.greatest < 2 ^ 63 }
+    requires room { doubt.greatest ≤ vec_capacity seen.old }
+    requires there { marks.0 ≡ false → doubt.base.now ≡ [] }
+    requires missing { marks.2 ≡ false → seen.old.items ≡ [] }
+    ensures file { given_file result seen.new.items ≡ file_left_by image (file_doubt marks.0 marks.1 doubt.entry) (given_file marks.2 seen.old.items) }
+    ensures missing { result ≡ false → seen.new.items ≡ [] }
+    ensures room { vec_capacity seen.old ≤ vec_capacity seen.new }
+{
+    let (there, moved, exists) = marks;
+    match image {
+        0 => {
+            replace_within(seen, doubt.base);
+            there
+        }
+        1 => exists,
+        seed => draw(seen, there, moved, doubt, seed),
     }
 }

@@ -1,11 +1,10 @@
-ghost use Rattle.std.specs.Prelude.{◌≡◌, ◌≤◌, [], reverse, IfOk, OnOk, OnErr, option_copied};
+ghost use Rattle.std.specs.Prelude.{◌≡◌, ◌≤◌, [], reverse, IfOk, OnOk, OnErr, Some, None, option_map};
 ghost use Rattle.cd_outside.specs.Shelf.{IsFileImage, WriteFile, CutFile, RemoveFile};
 ghost use Rattle.cd_content.specs.FileImage.{file_left_by};
 ghost use Rattle.cd_content.specs.Held.{held_settled, held_after};
 
-use crate::Generator;
 use crate::bytes::{append_within, replace_within, reserve_to, resize_within, write_within};
-use crate::image::{InDoubt, fill};
+use crate::image::{InDoubt, leave_file};
 use cd_types::NoMemory;
 use std::alloc::Global;
 use std::marker::Model;
@@ -101,10 +100,10 @@ impl Slot {
         ensures same { OnErr result (self.new.file ≡ self.old.file) }
         ensures image { IsFileImage self.new.file.doubt self.new.file.seen }
     {
+        self.ranges.reserve(1)?;
         let Some(end) = (at as usize).checked_add(bytes.len()) else {
             return Err(NoMemory);
         };
-        self.ranges.reserve(1)?;
         reserve_to(&mut self.seen, end.max(self.greatest))?;
         reserve_to(&mut self.base, end.max(self.greatest))?;
         self.ranges.push_reserved((at, bytes.len() as u64));
@@ -160,7 +159,52 @@ impl Slot {
         append_within(&mut base, &self.seen);
         let base = mem::replace(&mut self.base, base);
         let ranges = mem::replace(&mut self.ranges, Vec::new(alloc));
-        self.settle();
+        self.there = self.exists;
+        self.moved = false;
+        self.least = self.seen.len();
+        self.greatest = self.seen.len();
         Ok((base, ranges))
+    }
+
+    /// A crash leaves the image of that number, which is settled.
+    pub fn leave(&mut self, image: u64)
+        ensures name { self.new.name ≡ self.old.name }
+        ensures file { self.new.file ≡ held_settled (file_left_by image self.old.file.doubt self.old.file.seen) }
+        ensures image { IsFileImage self.old.file.doubt self.new.file.seen }
+    {
+        let doubt = InDoubt {
+            base: &self.base,
+            ranges: &self.ranges,
+            least: self.least,
+            greatest: self.greatest,
+        };
+        let marks = (self.there, self.moved, self.exists);
+        self.exists = leave_file(&mut self.seen, marks, doubt, image);
+        replace_within(&mut self.base, &self.seen);
+        self.ranges.clear();
+        self.there = self.exists;
+        self.moved = false;
+        self.least = self.seen.len();
+        self.greatest = self.seen.len();
+    }
+
+    /// Settles these bytes in place of what was there.
+    pub fn put(&mut self, bytes: &[u8]) -> Result<(), NoMemory>
+        ensures name { self.new.name ≡ self.old.name }
+        ensures file { OnOk result (self.new.file ≡ held_settled (Some bytes.now)) }
+        ensures same { OnErr result (self.new.file ≡ self.old.file) }
+        ensures image { IsFileImage self.new.file.doubt self.new.file.seen }
+    {
+        reserve_to(&mut self.seen, bytes.len().max(self.greatest))?;
+        reserve_to(&mut self.base, bytes.len().max(self.greatest))?;
+        replace_within(&mut self.seen, bytes);
+        replace_within(&mut self.base, bytes);
+        self.ranges.clear();
+        self.exists = true;
+        self.there = true;
+        self.moved = false;
+        self.least = bytes.len();
+        self.greatest = bytes.len();
+        Ok(())
     }
 }
