@@ -1,6 +1,9 @@
 mod Doubtful
+mod Errs
 mod FileImages
 mod Kept
 mod Left
 mod Replay
+mod Shelved
+mod Slots
 mod Written

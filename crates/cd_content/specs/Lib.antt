@@ -3,6 +3,11 @@ pub mod FileImage
 pub mod Generator
 pub mod Held
 pub mod Image
+pub mod Marks
+pub mod Past
+pub mod Place
 pub mod Record
+pub mod Shelves
 pub mod Slot
+pub mod Sound
 pub mod Tied

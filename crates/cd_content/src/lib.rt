@@ -8,9 +8,13 @@ mod entry;
 mod feed;
 mod generator;
 mod image;
+mod marks;
+mod past;
+mod shelves;
 mod slot;
 
 pub use content::Content;
 pub use feed::Feed;
 pub use generator::Generator;
+pub use shelves::Shelves;
 pub use slot::Slot;

@@ -2,9 +2,11 @@ ghost use Rattle.std.specs.Prelude.{◌≡◌, ◌≤◌, [], reverse, IfOk, OnO
 ghost use Rattle.cd_outside.specs.Shelf.{IsFileImage, WriteFile, CutFile, RemoveFile};
 ghost use Rattle.cd_content.specs.FileImage.{file_left_by};
 ghost use Rattle.cd_content.specs.Held.{held_settled, held_after};
+ghost use Rattle.cd_content.specs.Marks.{AreMarks};
 
 use crate::bytes::{append_within, replace_within, reserve_to, resize_within, write_within};
 use crate::image::{InDoubt, leave_file};
+use crate::marks::Marks;
 use cd_types::NoMemory;
 use std::alloc::Global;
 use std::marker::Model;
@@ -34,15 +36,6 @@ impl Model for Slot {
     ghost view = { slot_in };
 
     ghost invariant = { IsTidy };
-}
-
-/// What is in doubt of a file but for its bytes.
-#[derive(Clone, Copy)]
-pub struct Marks {
-    pub there: bool,
-    pub moved: bool,
-    pub least: usize,
-    pub greatest: usize,
 }
 
 impl Slot {
@@ -80,10 +73,7 @@ impl Slot {
 
     /// What is in doubt but for the bytes.
     pub fn marks(&self) -> Marks
-        ensures there { result.there ≡ self.now.file.doubt.there }
-        ensures moved { result.moved ≡ self.now.file.doubt.moved }
-        ensures least { result.least ≡ self.now.file.doubt.bytes.least }
-        ensures greatest { result.greatest ≡ self.now.file.doubt.bytes.greatest }
+        ensures { AreMarks result self.now.file.doubt }
     {
         Marks {
             there: self.there,
