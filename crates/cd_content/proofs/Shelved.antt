@@ -1,22 +1,27 @@
 -- The state of slots with a record, after a call.
-use Rattle.std.proofs.Common.{◌≡◌, ℕ, Bool, true, false, List, [], ◌∷◌, ◌++◌, drop, get_or, refl, ◌∙◌, ap}
+use Rattle.std.proofs.Common.{◌≡◌, ℕ, Bool, true, false, List, [], ◌∷◌, ◌++◌, drop, get_or, refl, sym, ◌∙◌, ap, subst, arith}
 use Rattle.std.proofs.Math.ListN.{set}
-use Rattle.std.specs.Prelude.{Option, Some, None, reverse, if◌then◌else◌}
+use Rattle.std.specs.Prelude.{Option, Some, None, map, reverse, if◌then◌else◌}
 use Rattle.std.specs.Str.{bytes_eq}
 use Rattle.std.proofs.lemmas.List.{reverse-append}
 use Rattle.std.proofs.lemmas.Slice.Eq.{bytes_eq-Decides}
-use Rattle.cd_outside.specs.Shelf.{FileDoubt, Shelf, WriteFile, CutFile, SyncFile, RemoveFile, put, settled_file, file_doubt_within, IsFileImage}
-use Rattle.cd_outside.specs.Files.{FilesState, files_did}
+use Rattle.cd_outside.specs.Shelf.{FileDoubt, Shelf, WriteFile, CutFile, SyncFile, RemoveFile, put, settled_file, file_doubt_within, IsFileImage, IsShelfImage}
+use Rattle.cd_outside.proofs.Images.{settled_is_image}
+use Rattle.cd_outside.specs.Files.{FilesState, files_at_first, files_did}
+use Rattle.cd_content.specs.FileImage.{file_left_by, shelf_left_by}
+use Rattle.cd_content.specs.Put.{files_put}
 use Rattle.cd_content.specs.Held.{FileHeld, SlotHeld, held_under, held_settled, held_after, shelf_of}
 use Rattle.cd_content.specs.Past.{base_before, ranges_before, doubt_before, doubts_before, doubts_within, calls_of, state_of, IsEntry}
+use Rattle.cd_content.specs.Left.{left_slot}
 use Rattle.cd_content.specs.Marks.{AreMarks}
 use Rattle.cd_content.specs.Place.{IsPlace}
-use Rattle.cd_content.specs.Sound.{AreImages}
+use Rattle.cd_content.specs.Sound.{IsSound, AreSound}
 use Rattle.cd_content.specs.declared.marks.Marks.{Marks}
 use Rattle.cd_content.specs.declared.past.Past.{Past}
 use Rattle.cd_content.specs.declared.past.Undo.{Undo}
 use Rattle.cd_content.specs.declared.past.Undo.TheVariants.{Wrote, Resized}
-use Rattle.cd_content.proofs.Slots.{bytes_eq_self, held_at, name_at, held_set, held_same, images_set}
+use Rattle.cd_content.proofs.FileImages.{file_left_by_is}
+use Rattle.cd_content.proofs.Slots.{bytes_eq_self, held_at, name_at, held_set, held_same, sound_set, held_left}
 
 -- the slots hold the same under each name
 pub same_state : (slots slots2 : List SlotHeld) (record_of : List Past) → ((name : List ℕ) → held_under slots2 name ≡ held_under slots name) → state_of slots2 record_of ≡ state_of slots record_of
@@ -102,8 +107,8 @@ module _ (slots : List SlotHeld) (name : List ℕ) (i : ℕ) (old new : SlotHeld
   old_file : old.file ≡ held_under slots name
   old_file = ap (λ (s : SlotHeld). s.file) was ∙ held_at slots name i old at
 
-  pub sound_after : IsFileImage new.file.doubt new.file.seen → AreImages slots → AreImages (set slots i new)
-  sound_after image images = images_set slots name i new at new_name image images
+  pub sound_after : IsSound new.file → AreSound slots → AreSound (set slots i new)
+  sound_after is_sound sound = sound_set slots name i new at new_name is_sound sound
 
   -- its file was left as it was
   pub state_kept : (record_of : List Past) (before : FilesState) → new.file ≡ old.file → state_of slots record_of ≡ before → state_of (set slots i new) record_of ≡ before
@@ -163,3 +168,41 @@ module _ (slots : List SlotHeld) (name : List ℕ) (i : ℕ) (old new : SlotHeld
           calls = (record { beat = beat; before = (shelf_of slots).doubt; within = kind (shelf_of slots).doubt (put name (settled_file ((held_under slots name).seen)) (shelf_of slots).doubt) j }) ∷ calls_of (reverse record_of) (shelf_of slots).doubt;
         })
         ∙ ap (files_did (SyncFile name) beat) state
+
+  -- bytes were put under the name, and the record was forgotten
+  pub put_there : (bytes : List ℕ) (before : FilesState) (record_of : List Past) (none : List Past) → none ≡ [] → new.file ≡ held_settled (Some bytes) → state_of slots record_of ≡ before → state_of (set slots i new) none ≡ files_put name bytes before
+  put_there bytes before record_of none forgotten file state =
+      let only = held_set slots name i new at new_name in
+      (λ j. record {
+        shelf = record { seen = seen_put slots (set slots i new) name new.file only j; doubt = doubt_put slots (set slots i new) name new.file only j };
+        calls = ap (λ (r : List Past). calls_of (reverse r) (shelf_of (set slots i new)).doubt) forgotten j;
+      })
+      ∙ ap (λ (f : FileHeld). put_of f) file
+      ∙ ap (files_put name bytes) state
+    where
+      put_of : FileHeld → FilesState
+      put_of f = record { shelf = record { seen = put name f.seen (shelf_of slots).seen; doubt = put name f.doubt (shelf_of slots).doubt }; calls = [] }
+
+-- a settled file is sound
+settled_sound : (file : Option (List ℕ)) → IsSound (held_settled file)
+settled_sound None = record { image = refl; base_from = omega arith; base_to = omega arith }
+settled_sound (Some bytes) = record { image = (refl, settled_is_image bytes); base_from = omega arith; base_to = omega arith }
+
+-- a crash left an image of all slots, and the record was forgotten
+module _ (image : ℕ) (slots slots2 : List SlotHeld) (left : slots2 ≡ map (left_slot image) slots) where
+  pub sound_left : AreSound slots2
+  sound_left name = subst IsSound (sym (ap (λ (l : List SlotHeld). held_under l name) left ∙ held_left image slots name)) (settled_sound (file_left_by image (held_under slots name).doubt (held_under slots name).seen))
+
+  pub state_left : (none : List Past) → none ≡ [] → state_of slots2 none ≡ files_at_first (shelf_left_by image (shelf_of slots))
+  state_left none forgotten =
+      let held : (name : List ℕ) → held_under slots2 name ≡ held_settled (file_left_by image (held_under slots name).doubt (held_under slots name).seen) = λ name. ap (λ (l : List SlotHeld). held_under l name) left ∙ held_left image slots name in
+      λ j. record {
+        shelf = record { seen = λ name. (held name j).seen; doubt = λ name. (held name j).doubt };
+        calls = ap (λ (r : List Past). calls_of (reverse r) (shelf_of slots2).doubt) forgotten j;
+      }
+
+  pub image_left : AreSound slots → IsShelfImage (shelf_of slots).doubt (shelf_of slots2).seen
+  image_left sound name =
+      let s = sound name in
+      subst (λ (f : FileHeld). IsFileImage (held_under slots name).doubt f.seen) (sym (ap (λ (l : List SlotHeld). held_under l name) left ∙ held_left image slots name))
+      (file_left_by_is image (held_under slots name).doubt (held_under slots name).seen s.image s.base_from s.base_to)

@@ -1,14 +1,16 @@
 -- What is held under each name of a list of slots, after a slot was changed or a new one was put in.
-use Rattle.std.proofs.Common.{◌≡◌, ℕ, ◌+◌, ◌≤◌, Bool, true, false, cond, List, [], ◌∷◌, ◌++◌, zero, suc, Option, Some, None, length, get_or, take, drop, refl, sym, ◌∙◌, ap, subst, arith}
-use Rattle.std.specs.Prelude.{if◌then◌else◌}
+use Rattle.std.proofs.Common.{length-drop, ◌≡◌, ℕ, ◌+◌, ◌≤◌, Bool, true, false, cond, List, [], ◌∷◌, ◌++◌, zero, suc, Option, Some, None, length, get_or, take, drop, refl, sym, ◌∙◌, ap, subst, arith}
+use Rattle.std.specs.Prelude.{if◌then◌else◌, map, ◌<◌}
 use Rattle.std.specs.Str.{bytes_eq}
 use Rattle.std.specs.List.{insert, position_from}
 use Rattle.std.proofs.Math.ListN.{set}
+use Rattle.std.proofs.lemmas.List.{append-nil, nil_from_length, take_all}
 use Rattle.std.proofs.lemmas.Slice.Eq.{bytes_eq-Decides}
-use Rattle.cd_outside.specs.Shelf.{IsFileImage}
+use Rattle.cd_content.specs.FileImage.{file_left_by}
 use Rattle.cd_content.specs.Held.{FileHeld, SlotHeld, held_settled, held_under}
+use Rattle.cd_content.specs.Left.{left_slot}
 use Rattle.cd_content.specs.Place.{IsPlace}
-use Rattle.cd_content.specs.Sound.{AreImages}
+use Rattle.cd_content.specs.Sound.{IsSound, AreSound}
 
 abbrev pub named : List ℕ → SlotHeld → Bool
 named name slot = bytes_eq slot.name name
@@ -103,21 +105,21 @@ place_insert slots name zero new absent is within = ap (λ (n : List ℕ). bytes
 place_insert [] name (suc i) new absent is within = absurd (omega arith)
 place_insert (slot ∷ slots) name (suc i) new absent is within = (absent.0, place_insert slots name i new absent.1 is (omega arith))
 
--- what a read gives may be left by a crash
-pub images_set : (slots : List SlotHeld) (name : List ℕ) (i : ℕ) (new : SlotHeld) → IsPlace slots name i → new.name ≡ name → IsFileImage new.file.doubt new.file.seen → AreImages slots → AreImages (set slots i new)
-images_set slots name i new at is image images other =
-    subst (λ (f : FileHeld). IsFileImage f.doubt f.seen) (sym (held_set slots name i new at is other)) (one (bytes_eq name other))
+-- what is held stays sound
+pub sound_set : (slots : List SlotHeld) (name : List ℕ) (i : ℕ) (new : SlotHeld) → IsPlace slots name i → new.name ≡ name → IsSound new.file → AreSound slots → AreSound (set slots i new)
+sound_set slots name i new at is is_sound sound other =
+    subst IsSound (sym (held_set slots name i new at is other)) (one (bytes_eq name other))
   where
-    one : (b : Bool) → IsFileImage (if b then new.file else held_under slots other).doubt (if b then new.file else held_under slots other).seen
-    one true = image
-    one false = images other
+    one : (b : Bool) → IsSound (if b then new.file else held_under slots other)
+    one true = is_sound
+    one false = sound other
 
-pub images_insert : (slots : List SlotHeld) (i : ℕ) (new : SlotHeld) → IsAbsent slots new.name → new.file ≡ held_settled None → AreImages slots → AreImages (insert slots i new)
-images_insert slots i new absent empty images other = subst (λ (f : FileHeld). IsFileImage f.doubt f.seen) (sym (held_insert slots i new absent empty other)) (images other)
+pub sound_insert : (slots : List SlotHeld) (i : ℕ) (new : SlotHeld) → IsAbsent slots new.name → new.file ≡ held_settled None → AreSound slots → AreSound (insert slots i new)
+sound_insert slots i new absent empty sound other = subst IsSound (sym (held_insert slots i new absent empty other)) (sound other)
 
-pub images_inserted : (slots items : List SlotHeld) (name : List ℕ) (done : Bool) (i : ℕ) (new : SlotHeld) → items ≡ (if done then insert slots i new else slots) → new.name ≡ name → IsAbsent slots name → new.file ≡ held_settled None → AreImages slots → AreImages items
-images_inserted slots items name true i new is name_is absent empty images = subst AreImages (sym is) (images_insert slots i new (subst (IsAbsent slots) (sym name_is) absent) empty images)
-images_inserted slots items name false i new is name_is absent empty images = subst AreImages (sym is) images
+pub sound_inserted : (slots items : List SlotHeld) (name : List ℕ) (done : Bool) (i : ℕ) (new : SlotHeld) → items ≡ (if done then insert slots i new else slots) → new.name ≡ name → IsAbsent slots name → new.file ≡ held_settled None → AreSound slots → AreSound items
+sound_inserted slots items name true i new is name_is absent empty sound = subst AreSound (sym is) (sound_insert slots i new (subst (IsAbsent slots) (sym name_is) absent) empty sound)
+sound_inserted slots items name false i new is name_is absent empty sound = subst AreSound (sym is) sound
 
 -- the file of a name was left as it was
 pub held_same : (slots : List SlotHeld) (name : List ℕ) (i : ℕ) (new : SlotHeld) → IsPlace slots name i → new.name ≡ name → new.file ≡ held_under slots name → (other : List ℕ) → held_under (set slots i new) other ≡ held_under slots other
@@ -126,3 +128,37 @@ held_same slots name i new at is file other = held_set slots name i new at is ot
     same : (b : Bool) → bytes_eq name other ≡ b → (if b then new.file else held_under slots other) ≡ held_under slots other
     same true e = file ∙ ap (held_under slots) (same_name name other e)
     same false e = refl
+
+none_left : (image : ℕ) → file_left_by image (held_settled None).doubt None ≡ None
+none_left zero = refl
+none_left (suc zero) = refl
+none_left (suc (suc n)) = refl
+
+pub held_left : (image : ℕ) (slots : List SlotHeld) (name : List ℕ) → held_under (map (left_slot image) slots) name ≡ held_settled (file_left_by image (held_under slots name).doubt (held_under slots name).seen)
+held_left image [] name = sym (ap held_settled (none_left image))
+held_left image (slot ∷ slots) name =
+    ap (λ (f : FileHeld). if bytes_eq slot.name name then (left_slot image slot).file else f) (held_left image slots name) ∙ both (bytes_eq slot.name name)
+  where
+    both : (b : Bool) → (if b then held_settled (file_left_by image slot.file.doubt slot.file.seen) else held_settled (file_left_by image (held_under slots name).doubt (held_under slots name).seen)) ≡ held_settled (file_left_by image (if b then slot.file else held_under slots name).doubt (if b then slot.file else held_under slots name).seen)
+    both true = refl
+    both false = refl
+
+-- one slot more
+step : (image : ℕ) (slots : List SlotHeld) (i : ℕ) (d new : SlotHeld) → i < length slots → new ≡ left_slot image (get_or (map (left_slot image) (take i slots) ++ drop i slots) i d)
+    → set (map (left_slot image) (take i slots) ++ drop i slots) i new ≡ map (left_slot image) (take (suc i) slots) ++ drop (suc i) slots
+step image [] i d new lt is = absurd (omega arith)
+step image (slot ∷ slots) zero d new lt is = ap (λ (s : SlotHeld). s ∷ slots) is
+step image (slot ∷ slots) (suc i) d new lt is = ap (λ (l : List SlotHeld). left_slot image slot ∷ l) (step image slots i d new (omega arith) is)
+
+pub left_more : (image : ℕ) (slots now : List SlotHeld) (i : ℕ) (d new : SlotHeld) → i < length slots → now ≡ map (left_slot image) (take i slots) ++ drop i slots → new ≡ left_slot image (get_or now i d)
+    → set now i new ≡ map (left_slot image) (take (i + 1) slots) ++ drop (i + 1) slots
+left_more image slots now i d new lt now_is is =
+    let count : suc i ≡ i + 1 = omega arith in
+    (λ j. set (now_is j) i new) ∙ step image slots i d new lt (is ∙ ap (λ (l : List SlotHeld). left_slot image (get_or l i d)) now_is)
+    ∙ (λ j. map (left_slot image) (take (count j) slots) ++ drop (count j) slots)
+
+-- the whole of a vector was written over
+pub whole : (new old : List SlotHeld) (n : ℕ) → n ≡ length old → length new ≡ length old → take n (new ++ drop (length new) old) ≡ new
+whole new old n count same =
+    let rest : drop (length new) old ≡ [] = nil_from_length (drop (length new) old) (omega (arith, length-drop (length new) old)) in
+    ap (λ (l : List SlotHeld). take n (new ++ l)) rest ∙ ap (take n) (append-nil new) ∙ take_all n new (omega arith)

@@ -3,9 +3,11 @@ pub mod FileImage
 pub mod Generator
 pub mod Held
 pub mod Image
+pub mod Left
 pub mod Marks
 pub mod Past
 pub mod Place
+pub mod Put
 pub mod Record
 pub mod Shelves
 pub mod Slot

@@ -1,4 +1,6 @@
-ghost use Rattle.cd_content.specs.Sound.{AreImages, AreImages-prop};
+ghost use Rattle.std.specs.Prelude.{◌≡◌, map};
+ghost use Rattle.cd_content.specs.Left.{left_slot};
+ghost use Rattle.cd_content.specs.Sound.{AreSound, AreSound-prop};
 
 use crate::past::{Past, Undo};
 use crate::slot::Slot;
@@ -11,17 +13,18 @@ pub struct Shelves {
     alloc: Global,
     slots: Vec<Slot>,
     past: Vec<Past>,
-    ghost sound: { AreImages slots.items } by { AreImages-prop slots.items },
+    ghost sound: { AreSound slots.items } by { AreSound-prop slots.items },
 }
 
 impl Shelves {
     ghost use Rattle.std.specs.Prelude.{◌≡◌, ◌<◌, Some, None, IfOk, OnOk, OnErr, IfSome, option_map, vec_len, vec_capacity};
     ghost use Rattle.std.specs.Str.{bytes_eq};
     ghost use Rattle.std.specs.List.{position_from};
-    ghost use Rattle.cd_outside.specs.Shelf.{WriteFile, CutFile, SyncFile, RemoveFile};
+    ghost use Rattle.cd_outside.specs.Shelf.{IsShelfImage, WriteFile, CutFile, SyncFile, RemoveFile};
     ghost use Rattle.cd_outside.specs.Files.{files_at_first, files_did};
     ghost use Rattle.cd_content.specs.FileImage.{shelf_left_by};
     ghost use Rattle.cd_content.specs.Place.{IsPlace};
+    ghost use Rattle.cd_content.specs.Put.{files_put};
     ghost use Rattle.cd_content.specs.Shelves.{state_in};
 
     /// No files.
@@ -143,5 +146,35 @@ impl Shelves {
         self.past
             .push_reserved(Past::new(beat, kept, marks, Undo::Synced(base, ranges)));
         Ok(())
+    }
+
+    /// Settles these bytes under a name in place of what was there, and forgets the calls of the past.
+    pub fn put(&mut self, name: &[u8], bytes: &[u8]) -> Result<(), NoMemory>
+        ensures put { OnOk result (state_in self.new ≡ files_put name.now bytes.now (state_in self.old)) }
+        ensures same { OnErr result (state_in self.new ≡ state_in self.old) }
+    {
+        let i = self.place(name)?;
+        let slot = &mut self.slots[i];
+        slot.put(bytes)?;
+        self.past.clear();
+        Ok(())
+    }
+
+    /// A crash leaves the image of that number of each name, all of it settled, and the calls of the past are forgotten.
+    pub fn leave(&mut self, image: u64)
+        ensures state { state_in self.new ≡ files_at_first (shelf_left_by image (state_in self.old).shelf) }
+        ensures image { IsShelfImage (state_in self.old).shelf.doubt (state_in self.new).shelf.seen }
+    {
+        leave_all(&mut self.slots, image);
+        self.past.clear();
+    }
+}
+
+// Leaves the image of that number of each slot.
+fn leave_all(slots: &mut [Slot], image: u64)
+    ensures { slots.new ≡ map (left_slot image) slots.old }
+{
+    for slot in slots.iter_mut() {
+        slot.leave(image);
     }
 }

@@ -1,8 +1,9 @@
 ghost use Rattle.std.specs.Prelude.{◌≡◌, ◌≤◌, [], reverse, IfOk, OnOk, OnErr, Some, None, option_map};
-ghost use Rattle.cd_outside.specs.Shelf.{IsFileImage, WriteFile, CutFile, RemoveFile};
+ghost use Rattle.cd_outside.specs.Shelf.{WriteFile, CutFile, RemoveFile};
 ghost use Rattle.cd_content.specs.FileImage.{file_left_by};
 ghost use Rattle.cd_content.specs.Held.{held_settled, held_after};
 ghost use Rattle.cd_content.specs.Marks.{AreMarks};
+ghost use Rattle.cd_content.specs.Sound.{IsSound};
 
 use crate::bytes::{append_within, replace_within, reserve_to, resize_within, write_within};
 use crate::image::{InDoubt, leave_file};
@@ -88,7 +89,7 @@ impl Slot {
         ensures name { self.new.name ≡ self.old.name }
         ensures file { OnOk result (self.new.file ≡ held_after (WriteFile self.old.name at bytes.now) self.old.file) }
         ensures same { OnErr result (self.new.file ≡ self.old.file) }
-        ensures image { IsFileImage self.new.file.doubt self.new.file.seen }
+        ensures sound { IsSound self.new.file }
     {
         self.ranges.reserve(1)?;
         let Some(end) = (at as usize).checked_add(bytes.len()) else {
@@ -109,7 +110,7 @@ impl Slot {
         ensures name { self.new.name ≡ self.old.name }
         ensures file { OnOk result (self.new.file ≡ held_after (CutFile self.old.name len) self.old.file) }
         ensures same { OnErr result (self.new.file ≡ self.old.file) }
-        ensures image { IsFileImage self.new.file.doubt self.new.file.seen }
+        ensures sound { IsSound self.new.file }
     {
         let len = len as usize;
         reserve_to(&mut self.seen, len.max(self.greatest))?;
@@ -126,7 +127,7 @@ impl Slot {
     pub fn remove(&mut self)
         ensures name { self.new.name ≡ self.old.name }
         ensures file { self.new.file ≡ held_after (RemoveFile self.old.name) self.old.file }
-        ensures image { IsFileImage self.new.file.doubt self.new.file.seen }
+        ensures sound { IsSound self.new.file }
     {
         if self.exists {
             self.seen.clear();
@@ -143,7 +144,7 @@ impl Slot {
         ensures base { IfOk result (λ old. old.0.items ≡ self.old.file.doubt.bytes.base) }
         ensures ranges { IfOk result (λ old. reverse old.1.items ≡ self.old.file.doubt.bytes.ranges) }
         ensures same { OnErr result (self.new.file ≡ self.old.file) }
-        ensures image { IsFileImage self.new.file.doubt self.new.file.seen }
+        ensures sound { IsSound self.new.file }
     {
         let mut base = Vec::with_capacity(alloc, self.seen.len())?;
         append_within(&mut base, &self.seen);
@@ -160,7 +161,6 @@ impl Slot {
     pub fn leave(&mut self, image: u64)
         ensures name { self.new.name ≡ self.old.name }
         ensures file { self.new.file ≡ held_settled (file_left_by image self.old.file.doubt self.old.file.seen) }
-        ensures image { IsFileImage self.old.file.doubt self.new.file.seen }
     {
         let doubt = InDoubt {
             base: &self.base,
@@ -183,7 +183,7 @@ impl Slot {
         ensures name { self.new.name ≡ self.old.name }
         ensures file { OnOk result (self.new.file ≡ held_settled (Some bytes.now)) }
         ensures same { OnErr result (self.new.file ≡ self.old.file) }
-        ensures image { IsFileImage self.new.file.doubt self.new.file.seen }
+        ensures sound { IsSound self.new.file }
     {
         reserve_to(&mut self.seen, bytes.len().max(self.greatest))?;
         reserve_to(&mut self.base, bytes.len().max(self.greatest))?;

@@ -2,7 +2,7 @@ use Rattle.std.proofs.Common.{rules, vec_len, ◌≤◌, length, List, ℕ, sym,
 use Rattle.cd_content.specs.Held.{SlotHeld, held_under}
 use Rattle.cd_content.specs.Place.{IsPlace}
 use Rattle.cd_content.proofs.Shelved.{same_state}
-use Rattle.cd_content.proofs.Slots.{place_is, absent_is, IsAbsent, held_insert, place_insert, images_inserted}
+use Rattle.cd_content.proofs.Slots.{place_is, absent_is, IsAbsent, held_insert, place_insert, sound_inserted}
 use Rattle.cd_content.proofs.shelves.Shelves.place.Goals as goal
 
 pub returns-in-Some-clause-place : goal.returns-in-Some-clause-place
@@ -10,7 +10,7 @@ returns-in-Some-clause-place c = place_is _ _ _ (sym c.in-Some.ensures.place)
 
 pub invariant_of-self : goal.invariant_of-self
 invariant_of-self c = record {
-  sound = images_inserted c.args.self.now.slots.items c.insert.new.self.items c.args.name.now _ c.unwrap_or-i.result c.new-slot.result c.insert.ensures.items (c.new-slot.ensures.name ∙ c.in_ok-from_slice.ensures.items) (absent_is c.args.self.now.slots.items c.args.name.now 0 (sym c.in-None.ensures.place)) c.new-slot.ensures.file c.args.self.now.sound;
+  sound = sound_inserted c.args.self.now.slots.items c.insert.new.self.items c.args.name.now _ c.unwrap_or-i.result c.new-slot.result c.insert.ensures.items (c.new-slot.ensures.name ∙ c.in_ok-from_slice.ensures.items) (absent_is c.args.self.now.slots.items c.args.name.now 0 (sym c.in-None.ensures.place)) c.new-slot.ensures.file c.args.self.now.sound;
 }
 
 pub returns-clause-place : goal.returns-clause-place

@@ -13,10 +13,3 @@ replace_within-requires c =
     let left = left_is a c.self.invariant c.args.image c.deref.result.now c.deref-2.result.now c.deref.ensures.value c.deref-2.ensures.value file.result file.new.seen.items file.ensures.file in
     let within = given_length (doubt_in a) file.result file.new.seen.items file.ensures.missing left in
     omega (arith, within, ap length c.deref-3.ensures.value, c.self.invariant.base_room)
-
-pub returns-clause-image : goal.returns-clause-image
-returns-clause-image c =
-    let a = c.self.inside in
-    let file = c.leave_file-self-inside in
-    let left = left_is a c.self.invariant c.args.image c.deref.result.now c.deref-2.result.now c.deref.ensures.value c.deref-2.ensures.value file.result file.new.seen.items file.ensures.file in
-    subst (λ (s : SlotHeld). IsFileImage s.file.doubt (given_file file.result file.new.seen.items)) c.self.view_is left

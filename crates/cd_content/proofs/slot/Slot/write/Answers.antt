@@ -55,5 +55,13 @@ invariant_of-self-2 c =
       base_room = omega (arith, c.max-2.ensures, greatest, c.in_ok-reserve_to-2.ensures.room);
     }
 
-pub returns-clause-image : goal.returns-clause-image
-returns-clause-image c = (moved c, image c)
+pub returns-clause-sound : goal.returns-clause-sound
+returns-clause-sound c =
+    let a = c.self.inside in
+    let t = c.self.invariant in
+    let base = ap length c.reserve_to-2.ensures.items in
+    record {
+      image = (moved c, image c);
+      base_from = omega (arith, base, t.base_from);
+      base_to = omega (arith, base, t.base_to, c.max-self-inside.ensures);
+    }
