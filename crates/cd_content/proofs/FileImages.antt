@@ -3,7 +3,7 @@ use Rattle.std.proofs.Common.{◌≡◌, ℕ, ◌≤◌, Bool, true, false, ◌|
 use Rattle.std.specs.Prelude.{IsTrue, not, reverse}
 use Rattle.cd_outside.specs.Doubt.{IsImage}
 use Rattle.cd_outside.specs.Shelf.{FileDoubt, IsFileImage}
-use Rattle.cd_content.specs.FileImage.{given_file, is_left_of, after_is_left_of, file_from, file_left_by}
+use Rattle.cd_content.specs.FileImage.{given_file, is_left_of, after_is_left_of, file_left_by}
 use Rattle.cd_content.specs.Slot.{doubt_in, seen_in, IsTidy}
 use Rattle.cd_content.specs.declared.slot.Slot.TheInside.{Inside}
 use Rattle.cd_content.proofs.Doubtful.{image_from_is}

@@ -155,6 +155,7 @@ module _ (slots : List SlotHeld) (name : List ℕ) (i : ℕ) (old new : SlotHeld
         removed_base : (seen : Option (List ℕ)) → (file_doubt_within (RemoveFile name) seen old.file.doubt).bytes.base ≡ old.file.doubt.bytes.base
         removed_base None = refl
         removed_base (Some bytes) = refl
+
         removed_ranges : (seen : Option (List ℕ)) → (file_doubt_within (RemoveFile name) seen old.file.doubt).bytes.ranges ≡ old.file.doubt.bytes.ranges
         removed_ranges None = refl
         removed_ranges (Some bytes) = refl

@@ -1,5 +1,5 @@
 -- What is held under each name of a list of slots, after a slot was changed or a new one was put in.
-use Rattle.std.proofs.Common.{length-drop, ◌≡◌, ℕ, ◌+◌, ◌≤◌, Bool, true, false, cond, List, [], ◌∷◌, ◌++◌, zero, suc, Option, Some, None, length, get_or, take, drop, refl, sym, ◌∙◌, ap, subst, arith}
+use Rattle.std.proofs.Common.{length-drop, ◌≡◌, ℕ, ◌+◌, ◌≤◌, Bool, true, false, cond, List, [], ◌∷◌, ◌++◌, zero, suc, Some, None, length, get_or, take, drop, refl, sym, ◌∙◌, ap, subst, arith}
 use Rattle.std.specs.Prelude.{if◌then◌else◌, map, ◌<◌}
 use Rattle.std.specs.Str.{bytes_eq}
 use Rattle.std.specs.List.{insert, position_from}
@@ -80,6 +80,7 @@ held_set (slot ∷ slots) name (suc i) new at is other =
   where
     apart : slot.name ≡ name → ⊥
     apart same = let t = (bytes_eq-Decides slot.name name).1 same in let f = at.0 in cc
+
     swapped : (a b : Bool) (x y z : FileHeld) → (a ≡ true → b ≡ true → ⊥) → (if a then x else (if b then y else z)) ≡ (if b then y else (if a then x else z))
     swapped true true x y z never = absurd (never refl refl)
     swapped true false x y z never = refl

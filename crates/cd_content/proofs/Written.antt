@@ -1,11 +1,11 @@
 -- What a read gives after a write stays an image of what is in doubt, also where the write leaves a gap.
-use Rattle.std.proofs.Common.{◌≡◌, ℕ, ◌+◌, ◌-◌, ◌<◌, ◌≤◌, Bool, true, false, ◌||◌, List, ◌++◌, length, get_or, take, drop, replicate, refl, sym, ◌∙◌, ap, subst, ⊎_elim, arith, length-append, length-take}
+use Rattle.std.proofs.Common.{◌≡◌, ℕ, ◌+◌, ◌-◌, ◌<◌, ◌≤◌, Bool, true, false, ◌||◌, List, ◌++◌, length, get_or, take, drop, replicate, sym, ◌∙◌, ap, subst, ⊎_elim, arith, length-append, length-take}
 use Rattle.std.specs.Prelude.{IsTrue, not}
 use Rattle.std.proofs.Math.Bool.{or_comm}
 use Rattle.std.proofs.lemmas.List.{get_or_append_left, get_or-append_right, get_or-take, get_or-drop}
 use Rattle.cd_outside.specs.Content.{resized, overwritten}
 use Rattle.cd_outside.specs.Doubt.{Doubt, IsImage}
-use Rattle.cd_outside.specs.Disk.{Write, Cut, doubt_within}
+use Rattle.cd_outside.specs.Disk.{Write, doubt_within}
 use Rattle.cd_outside.proofs.Contents.{length-overwritten, length-resized}
 
 pub resized_at : (len : ℕ) (old : List ℕ) (place : ℕ) → place < len → place < length old → get_or (resized len old) place 0 ≡ get_or old place 0

@@ -1,7 +1,6 @@
 -- The images that a crash leaves of files.
 use Rattle.std.specs.Prelude.{ℕ, List, Bool, Option, Some, None, if◌then◌else◌, zero, suc, ◌==◌}
 use Rattle.cd_outside.specs.Shelf.{FileMap, FileDoubt, Shelf}
-use Rattle.cd_outside.specs.Files.{FilesState, files_at_first}
 use Rattle.cd_content.specs.Generator.{step, drawn, image_from}
 
 -- a file with these bytes, or none

@@ -1,5 +1,5 @@
 -- What is held of files by their names, in a list of names.
-use Rattle.std.specs.Prelude.{ℕ, List, [], ◌∷◌, Option, Some, None, if◌then◌else◌}
+use Rattle.std.specs.Prelude.{ℕ, List, [], ◌∷◌, Option, None, if◌then◌else◌}
 use Rattle.std.specs.Str.{bytes_eq}
 use Rattle.cd_outside.specs.Shelf.{FileDoubt, FileChange, file_after, file_doubt_within, settled_file, Shelf}
 

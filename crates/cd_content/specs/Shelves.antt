@@ -1,5 +1,4 @@
 -- What shelves show.
-use Rattle.std.specs.Prelude.{ℕ}
 use Rattle.cd_outside.specs.Files.{FilesState}
 use Rattle.cd_content.specs.Past.{state_of}
 use Rattle.cd_content.specs.declared.shelves.Shelves.{Shelves}

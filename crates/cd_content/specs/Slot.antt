@@ -1,8 +1,8 @@
 -- What is held of one name: its file, and what is in doubt of it.
-use Rattle.std.specs.Prelude.{ℕ, ◌≡◌, ◌≤◌, List, [], Bool, false, Option, Some, None, reverse, length, if◌then◌else◌, vec_capacity}
+use Rattle.std.specs.Prelude.{ℕ, ◌≡◌, ◌≤◌, List, [], false, Option, Some, None, reverse, length, if◌then◌else◌, vec_capacity}
 use Rattle.cd_outside.specs.Doubt.{IsImage}
-use Rattle.cd_outside.specs.Shelf.{FileDoubt, FileChange, file_after, file_doubt_within, settled_file}
-use Rattle.cd_content.specs.Held.{FileHeld, SlotHeld}
+use Rattle.cd_outside.specs.Shelf.{FileDoubt}
+use Rattle.cd_content.specs.Held.{SlotHeld}
 use Rattle.cd_content.specs.declared.slot.Slot.TheInside.{Inside}
 
 -- the file that a read gives

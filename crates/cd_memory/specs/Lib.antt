@@ -1,8 +1,8 @@
 pub mod MemoryDisk
+pub mod MemoryFiles
 pub mod MemoryStreams
 pub mod SteadyDisk
 pub mod SteadyStreams
 pub mod Stops
-
 pub use Rattle.cd_content.specs.Generator
 pub use Rattle.cd_content.specs.Record

@@ -1,10 +1,10 @@
 ghost use Rattle.cd_outside.specs.Doubt.{IsImage};
 
 use crate::FaultScript;
-use cd_content::Content;
 use crate::fate::Fate;
 use crate::stop::Stop;
 use crate::tally::Tally;
+use cd_content::Content;
 use cd_outside::{Beat, Disk, Failed};
 use cd_types::NoMemory;
 use std::alloc::Global;

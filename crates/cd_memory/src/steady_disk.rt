@@ -1,7 +1,7 @@
 ghost use Rattle.cd_outside.specs.Doubt.{IsImage};
 
-use cd_content::Content;
 use crate::count::failed;
+use cd_content::Content;
 use cd_outside::{Beat, Disk, Failed};
 use cd_types::NoMemory;
 use std::alloc::Global;

@@ -1,4 +1,4 @@
-use Rattle.std.proofs.Common.{rules, vec_len, ◌≤◌, length, List, ℕ, sym, ◌∙◌, ap, subst, arith}
+use Rattle.std.proofs.Common.{rules, vec_len, ◌≤◌, length, List, sym, ◌∙◌, ap, subst, arith}
 use Rattle.cd_content.specs.Held.{SlotHeld, held_under}
 use Rattle.cd_content.specs.Place.{IsPlace}
 use Rattle.cd_content.proofs.Shelved.{same_state}

@@ -1,4 +1,4 @@
-use Rattle.std.proofs.Common.{refl, ap}
+use Rattle.std.proofs.Common.{refl}
 use Rattle.cd_content.proofs.Shelved.{sound_after, removed}
 use Rattle.cd_content.proofs.shelves.Shelves.remove.Goals as goal
 

@@ -1,4 +1,4 @@
-use Rattle.std.proofs.Common.{refl, ap}
+use Rattle.std.proofs.Common.{refl}
 use Rattle.cd_content.proofs.Errs.{on_err}
 use Rattle.cd_content.proofs.Shelved.{sound_after, state_kept, wrote}
 use Rattle.cd_content.proofs.shelves.Shelves.write.Goals as goal

@@ -1,7 +1,4 @@
-use Rattle.std.proofs.Common.{ap, subst, arith, length}
-use Rattle.cd_outside.specs.Shelf.{IsFileImage}
-use Rattle.cd_content.specs.FileImage.{given_file}
-use Rattle.cd_content.specs.Held.{SlotHeld}
+use Rattle.std.proofs.Common.{ap, arith, length}
 use Rattle.cd_content.specs.Slot.{doubt_in}
 use Rattle.cd_content.proofs.FileImages.{left_is, given_length}
 use Rattle.cd_content.proofs.slot.Slot.leave.Goals as goal

@@ -1,9 +1,8 @@
-use Rattle.std.proofs.Common.{◌≡◌, ◌+◌, ◌≤◌, max, ◌∷◌, Bool, true, false, List, ℕ, refl, sym, ◌∙◌, ap, arith, length}
+use Rattle.std.proofs.Common.{◌≡◌, Bool, true, false, List, ℕ, refl, sym, ◌∙◌, ap, arith, length}
 use Rattle.std.specs.Prelude.{IsTrue, ◌||◌, reverse}
 use Rattle.cd_outside.specs.Doubt.{IsImage}
 use Rattle.cd_outside.specs.Disk.{Write, doubt_within}
 use Rattle.cd_outside.specs.Content.{overwritten}
-use Rattle.cd_outside.proofs.Contents.{length-overwritten}
 use Rattle.cd_content.specs.Slot.{doubt_in}
 use Rattle.cd_content.proofs.Replay.{reverse_push}
 use Rattle.cd_content.proofs.Written.{write_image, same_image, made_is, made_still}
