@@ -1,6 +1,7 @@
 mod Doubtful
 mod Errs
 mod FileImages
+mod Fresh
 mod Kept
 mod Left
 mod Replay

@@ -1,3 +1,4 @@
+pub mod Exchange
 pub mod Feeds
 pub mod FileImage
 pub mod Generator
@@ -6,9 +7,11 @@ pub mod Image
 pub mod Left
 pub mod Marks
 pub mod Past
+pub mod Pieces
 pub mod Place
 pub mod Put
 pub mod Record
+pub mod Sessions
 pub mod Shelves
 pub mod Slot
 pub mod Sound

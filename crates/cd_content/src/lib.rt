@@ -5,16 +5,21 @@
 mod bytes;
 mod content;
 mod entry;
+mod exchange;
 mod feed;
 mod generator;
 mod image;
 mod marks;
 mod past;
+mod piece;
+mod session;
 mod shelves;
 mod slot;
 
 pub use content::Content;
+pub use exchange::Exchange;
 pub use feed::Feed;
 pub use generator::Generator;
+pub use piece::Piece;
 pub use shelves::Shelves;
 pub use slot::Slot;

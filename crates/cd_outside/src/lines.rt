@@ -66,7 +66,8 @@ pub trait Lines {
     /// Takes some bytes of a session to the front of a buffer that isn't empty, and tells how many; 0 where the session
     /// ended. Where it fails, it takes none.
     fn receive(&mut self, sid: Sid, into: &mut [u8]) -> Result<usize, Failed>
-        requires given { sid.number ≤ last self.old }
+        requires from { 1 ≤ sid.number }
+        requires to { sid.number ≤ last self.old }
         requires room { 0 < length into.old }
         ensures within { IfOk result (λ n. n ≤ length into.old) }
         ensures taken { told → IfOk result (λ n. traffic self.new ≡ took sid.number (take n into.new) (traffic self.old)) }
@@ -80,7 +81,8 @@ pub trait Lines {
 
     /// Gives bytes to a session. Where it fails, it gave a front of them.
     fn send(&mut self, sid: Sid, bytes: &[u8]) -> Result<(), Failed>
-        requires { sid.number ≤ last self.old }
+        requires from { 1 ≤ sid.number }
+        requires to { sid.number ≤ last self.old }
         ensures sent { told → OnOk result (traffic self.new ≡ sent sid.number bytes.now (traffic self.old)) }
         ensures front { told → OnErr result (GaveFront sid.number bytes.now (traffic self.old) (traffic self.new)) }
         ensures last { last self.new ≡ last self.old }
@@ -91,7 +93,8 @@ pub trait Lines {
 
     /// Closes a session on this side.
     fn close(&mut self, sid: Sid)
-        requires { sid.number ≤ last self.old }
+        requires from { 1 ≤ sid.number }
+        requires to { sid.number ≤ last self.old }
         ensures same { told → traffic self.new ≡ traffic self.old }
         ensures last { last self.new ≡ last self.old }
         ensures other_ends { SameOtherEnds sid.number (counts self.old) (counts self.new) }
