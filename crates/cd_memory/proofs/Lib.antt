@@ -1,4 +1,1 @@
-mod Doubtful
-mod Kept
-mod Left
-mod Replay
+mod Begun

@@ -2,16 +2,12 @@
 //! Each has a steady form, which never fails within the room that was made for it.
 #![tactic(auto)]
 
-mod bytes;
 mod clock;
-mod content;
 mod count;
 mod disk;
-mod entry;
 mod fate;
-mod feed;
-mod generator;
-mod image;
+mod files;
+mod reading;
 mod script;
 mod sink;
 mod source;
@@ -19,9 +15,10 @@ mod steady_disk;
 mod stop;
 mod tally;
 
+pub use cd_content::Generator;
 pub use clock::{MemoryClock, SteadyClock};
 pub use disk::MemoryDisk;
-pub use generator::Generator;
+pub use files::MemoryFiles;
 pub use script::FaultScript;
 pub use sink::{MemorySink, SteadySink};
 pub use source::{MemorySource, SteadySource};
@@ -30,7 +27,7 @@ pub use steady_disk::SteadyDisk;
 #[cfg(test)]
 mod tests {
     use super::*;
-    use cd_outside::{Beat, Clock, Disk, Sink, Source, sync_now, write_through};
+    use cd_outside::{Beat, Clock, Disk, Files, Sink, Source, sync_now, write_through};
     use cd_types::Moment;
     use std::test::Fail;
 
@@ -50,6 +47,37 @@ mod tests {
         assert_eq!(rt; disk.bytes(), [9, 9, 3, 4].as_slice());
         disk.crash(2);
         assert_eq!(rt; disk.bytes(), [170, 136, 3, 4].as_slice());
+        Ok(())
+    }
+
+    // Two files are written, one of them made; the stop comes within a write, and the generator draws what each name has.
+    #[test]
+    fn files_stop(rt: HostRuntime) -> Result<(), Fail> {
+        let alloc = rt.alloc();
+        let mut files = MemoryFiles::new(alloc, FaultScript::new(Vec::new(alloc)))?;
+        let mut beat = Beat::new();
+        files.put(b"a", &[1, 2, 3])?;
+        files.write_at(b"a", 3, &[4], &mut beat)?;
+        files.sync(b"a", &mut beat)?;
+        files.write_at(b"b", 2, &[9], &mut beat)?;
+        assert_eq!(rt; files.get(b"b"), Some([0, 0, 9].as_slice()));
+        let mut into = [0, 0];
+        assert_eq!(rt; files.read(b"b", 2, &mut into)?, 1);
+        assert_eq!(rt; files.size(b"c")?, None);
+        files.fail(1)?;
+        assert!(rt; files.cut(b"a", 0, &mut beat).is_err());
+        files.stop_at(5);
+        assert!(rt; files.write_at(b"a", 0, &[7, 7], &mut beat).is_err());
+        assert!(rt; files.stopped());
+        assert!(rt; !files.starved());
+        assert_eq!(rt; files.get(b"a"), Some([7, 7, 3, 4].as_slice()));
+        files.crash(3);
+        assert_eq!(rt; files.get(b"a"), Some([251, 67, 3, 4].as_slice()));
+        assert_eq!(rt; files.get(b"b"), Some([67, 202, 52].as_slice()));
+        files.remove(b"a", &mut beat)?;
+        assert_eq!(rt; files.get(b"a"), None);
+        files.crash(0);
+        assert_eq!(rt; files.get(b"a"), Some([251, 67, 3, 4].as_slice()));
         Ok(())
     }
 

@@ -1,6 +1,6 @@
 use crate::FaultScript;
-use crate::feed::Feed;
 use crate::tally::Tally;
+use cd_content::Feed;
 use cd_outside::{Failed, Source};
 use cd_types::NoMemory;
 use std::alloc::Global;

@@ -1,0 +1,10 @@
+mod Doubtful
+mod Errs
+mod FileImages
+mod Fresh
+mod Kept
+mod Left
+mod Replay
+mod Shelved
+mod Slots
+mod Written

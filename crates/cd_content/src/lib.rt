@@ -1,0 +1,25 @@
+//! What devices in memory hold: the bytes of a disk, of files and of sessions, with what a crash may leave of them. Of
+//! faults and stops it knows nothing; those are the devices' own.
+#![tactic(auto)]
+
+mod bytes;
+mod content;
+mod entry;
+mod exchange;
+mod feed;
+mod generator;
+mod image;
+mod marks;
+mod past;
+mod piece;
+mod session;
+mod shelves;
+mod slot;
+
+pub use content::Content;
+pub use exchange::Exchange;
+pub use feed::Feed;
+pub use generator::Generator;
+pub use piece::Piece;
+pub use shelves::Shelves;
+pub use slot::Slot;
