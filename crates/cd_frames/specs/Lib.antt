@@ -1,0 +1,6 @@
+pub mod Frame
+pub mod FrameLaw
+pub mod Message
+pub mod Reject
+pub mod Symbols
+pub mod Whole
