@@ -22,7 +22,7 @@ use Rattle.cd_frames.specs.declared.frame.RejectCause.TheVariants as reject
 use Rattle.cd_frames.specs.declared.frame.Welcome.{Welcome}
 use Rattle.cd_frames.specs.Message as message
 use Rattle.cd_frames.specs.Message.{Message}
-use Rattle.cd_frames.specs.Reject.{reject_cause}
+use Rattle.cd_frames.specs.Reject.{reject_cause, IsSendable}
 use Rattle.cd_frames.specs.Symbols.{is_symbols}
 use Rattle.cd_frames.specs.Whole.{Whole, alone, before, nothing}
 
@@ -163,8 +163,7 @@ pub record IsFrame (m : Message) : Type 0 where
 abbrev pub IsWritable : Message → Type 0
 IsWritable (message.Hello greeting) = IsTrue (is_block greeting.block)
 IsWritable (message.Welcome greeting) = IsTrue (is_block greeting.block)
-IsWritable (message.Reject (reject.OtherName name)) = ⊥
-IsWritable (message.Reject _) = Unit {0}
+IsWritable (message.Reject why) = IsSendable why
 IsWritable (message.StepCopyTo step name _ _ _) = IsPlace step.place × IsTrue (is_file_name name)
 IsWritable (message.StepCopyFrom step name _) = IsPlace step.place × IsTrue (is_file_name name)
 IsWritable (message.StepTask step _ command) = IsPlace step.place × IsTrue (is_command command)

@@ -1,13 +1,15 @@
 -- The law of messages: what is spelled is read, and nothing else is.
 use Rattle.std.proofs.Common.{◌≡◌, ℕ, ◌<◌, Bool, true, false, cond, List, [], ◌∷◌, ◌++◌, Option, Some, refl, sym, ap, subst, ◌∙◌, arith}
-use Rattle.std.specs.Prelude.{◌==◌}
-use Rattle.std.proofs.lemmas.Bool.{eqb-true}
+use Rattle.std.specs.Prelude.{◌==◌, length, IsTrue}
+use Rattle.std.proofs.Common.{leb, ltb}
+use Rattle.std.proofs.lemmas.Bool.{eqb-true, leb-true, lt-ltb}
+use Rattle.cd_types.specs.FileName.{is_text}
 use Rattle.cd_types.specs.Format.{IsBytes}
 use Rattle.cd_types.specs.CompoundLaw.{IsBytes-after}
 use Rattle.cd_types.specs.Number.{number_bytes, number_in}
 use Rattle.cd_types.specs.NumberLaw.{number_law}
-use Rattle.cd_types.specs.TextLaw.{bind_some}
-use Rattle.cd_frames.specs.Frame.{hello_fields, welcome_fields, reject_fields, step_copy_to_fields, step_copy_from_fields, step_task_fields, step_submit_fields, key_and_number, data_fields, result_fields, abort_fields, forget_fields, no_fields, IsMessage, code_of, fields_of, body_bytes, read_as, hello_of, welcome_of, reject_of, step_copy_to_of, step_copy_from_of, step_task_of, step_submit_of, ready_of, length_of, data_of, ack_of, end_of, result_of, abort_of, forget_of, bye_of, kinds, of_kind, message_in}
+use Rattle.cd_types.specs.TextLaw.{bind_some, both_true}
+use Rattle.cd_frames.specs.Frame.{hello_fields, welcome_fields, reject_fields, step_copy_to_fields, step_copy_from_fields, step_task_fields, step_submit_fields, key_and_number, data_fields, result_fields, abort_fields, forget_fields, no_fields, IsMessage, code_of, fields_of, body_bytes, read_as, hello_of, welcome_of, reject_of, step_copy_to_of, step_copy_from_of, step_task_of, step_submit_of, ready_of, length_of, data_of, ack_of, end_of, result_of, abort_of, forget_of, bye_of, kinds, of_kind, message_in, is_command}
 use Rattle.cd_frames.specs.Message as message
 use Rattle.cd_frames.specs.Message.{Message}
 use Rattle.cd_frames.specs.Whole.{Whole}
@@ -168,3 +170,9 @@ message_only bytes m fit is =
     let front = (number_law 1).only bytes code.0.0 code.0.1 fit code.1 in
     let rest = of_kind_only kinds code.0.0 code.0.1 m are_kinds (IsBytes-after (number_bytes 1 code.0.0) code.0.1 (subst IsBytes front.0 fit)) code.2 in
     (front.0 ∙ rest.0, rest.1)
+
+-- a command is a text
+pub command_is_text : (command : List ℕ) → IsTrue (is_command command) → IsTrue (is_text command)
+command_is_text command form =
+    let tests = both_true (leb 1 (length command)) (leb (length command) 32768) form in
+    lt-ltb (length command) 4294967296 (omega (arith, leb-true _ _ tests.1))

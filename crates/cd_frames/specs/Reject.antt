@@ -26,7 +26,15 @@ reject_of parts =
     else if parts.0 == 4 then Some (reject.Busy parts.1)
     else None
 
--- it can be sent
+-- what a caller has to know of a reason to send it
+abbrev pub IsSendable : RejectCause → Type 0
+IsSendable (reject.VersionUnknown version) = Unit {0}
+IsSendable (reject.SameHome home) = Unit {0}
+IsSendable (reject.UnknownNode nodes) = Unit {0}
+IsSendable (reject.Busy sessions) = Unit {0}
+IsSendable (reject.OtherName name) = ⊥
+
+-- it has a spelling
 abbrev pub IsSent : RejectCause → Type 0
 IsSent (reject.VersionUnknown version) = IsNumber 8 version
 IsSent (reject.SameHome home) = IsNumber 8 home

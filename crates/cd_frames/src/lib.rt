@@ -2,7 +2,10 @@
 #![tactic(auto)]
 
 mod frame;
+mod kind;
 mod law;
+mod writing;
 
 pub use frame::{Frame, FrameFault, Hello, RejectCause, Welcome};
 pub use law::law_of_frames;
+pub use writing::write_frame;
