@@ -4,4 +4,5 @@ pub mod Message
 pub mod Reject
 pub mod Stream
 pub mod Symbols
+pub mod SymbolsLaw
 pub mod Whole

@@ -60,8 +60,19 @@ pairs_of bytes = do
   pairs ← pairs_in count.0 count.1
   if length pairs.1 == 0 then Some pairs.0 else None
 
+-- the bytes after so many pairs
+abbrev pub after_pairs : ℕ → List ℕ → Option (List ℕ)
+after_pairs zero bytes = Some bytes
+after_pairs (suc n) bytes = do
+  pair ← symbol.found_in bytes
+  after_pairs n pair.1
+
+-- the bytes are a number of pairs and so many pairs, and nothing else
 unfoldable pub is_symbols : List ℕ → Bool
-is_symbols bytes = is_some (pairs_of bytes)
+is_symbols bytes = is_some (do
+  count ← number_in 2 bytes
+  rest ← after_pairs count.0 count.1
+  if length rest == 0 then Some rest else None)
 
 -- Symbols to which these pairs were given one by one. Names are the same whatever their case, and are kept in upper case.
 abbrev pub with_pairs : List (List ℕ × List ℕ) → List (List ℕ × List ℕ) → List (List ℕ × List ℕ)

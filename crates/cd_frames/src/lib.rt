@@ -4,6 +4,8 @@
 mod frame;
 mod kind;
 mod law;
+mod reading;
+mod symbols;
 mod writing;
 
 pub use frame::{Frame, FrameFault, Hello, RejectCause, Welcome};
