@@ -1,8 +1,11 @@
+pub mod Buffer
 pub mod Frame
 pub mod FrameLaw
 pub mod Message
+pub mod Reading
 pub mod Reject
 pub mod Stream
+pub mod StreamLaw
 pub mod Symbols
 pub mod SymbolsLaw
 pub mod Whole

@@ -17,25 +17,25 @@ told place = min place 18446744073709551615
 
 -- what stands at the front of the bytes
 pub data Front : Type 0 where
-  -- a frame, and the bytes behind it
-  gives : Message → List ℕ → Front
+  -- a frame, of so many bytes
+  gives : Message → ℕ → Front
   -- what is no frame, however it goes on
   refuses : FrameFault → Front
   -- less than a whole frame
   waits : Front
 
--- whether the bytes behind a length are a frame
-abbrev pub judged : ℕ → Option Message → List ℕ → Front
-judged place (Some m) rest = gives m rest
-judged place None rest = refuses (fault.Bad (told place))
+-- what was found in so many bytes at this place, where it is a frame
+abbrev pub judged : ℕ → ℕ → Option Message → Front
+judged place size (Some m) = gives m size
+judged place size None = refuses (fault.Bad (told place))
 
--- behind a length of len: above 131,072 it is refused; else so many bytes have to be there, and are a frame or not
+-- behind a length: one above 131,072 is refused; else so many bytes have to be there, and are a frame or not
 abbrev pub behind_length : ℕ → Option (ℕ × List ℕ) → Front
 behind_length place None = waits
 behind_length place (Some found) =
     if nat_lt 131072 found.0 then refuses (fault.TooLong found.0)
     else if nat_lt (length found.1) found.0 then waits
-    else judged place (message_in (take found.0 found.1)) (drop found.0 found.1)
+    else judged place (4 + found.0) (message_in (take found.0 found.1))
 
 -- the front of bytes that begin at this place of the stream
 unfoldable pub front_of : ℕ → List ℕ → Front
@@ -43,7 +43,7 @@ front_of place bytes = behind_length place (number_in 4 bytes)
 
 -- the fault that stands there, or none
 abbrev pub fault_of : Front → Option FrameFault
-fault_of (gives m rest) = None
+fault_of (gives m size) = None
 fault_of (refuses why) = Some why
 fault_of waits = None
 
@@ -62,7 +62,7 @@ pub record AreFramesOf (bytes : List ℕ) (messages : List Message) (why : Optio
 abbrev pub frames_upto : ℕ → ℕ → List ℕ → List Message × Option FrameFault
 frames_upto zero place bytes = ([], None)
 frames_upto (suc n) place bytes = elim (front_of place bytes) [
-  | gives m rest ↦ (let more : List Message × Option FrameFault = frames_upto n (place + length (frame_bytes m)) rest in (m ∷ more.0, more.1))
+  | gives m size ↦ (let more : List Message × Option FrameFault = frames_upto n (place + size) (drop size bytes) in (m ∷ more.0, more.1))
   | refuses why ↦ ([], Some why)
   | waits ↦ ([], None)
 ]
