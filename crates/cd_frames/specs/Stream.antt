@@ -58,14 +58,16 @@ pub record AreFramesOf (bytes : List ℕ) (messages : List Message) (why : Optio
   pub longest : (m : Message) (more : List ℕ) → IsFrame m → rest ≡ frame_bytes m ++ more → ⊥
   pub next : why ≡ fault_of (front_of (length (joined messages)) rest)
 
+-- the frame at the front before those behind it
+abbrev pub led_by : Front → (ℕ → List Message × Option FrameFault) → List Message × Option FrameFault
+led_by (gives m size) more = (m ∷ (more size).0, (more size).1)
+led_by (refuses why) more = ([], Some why)
+led_by waits more = ([], None)
+
 -- so many frames at most, and the fault behind the last; each frame has five bytes at least
 abbrev pub frames_upto : ℕ → ℕ → List ℕ → List Message × Option FrameFault
 frames_upto zero place bytes = ([], None)
-frames_upto (suc n) place bytes = elim (front_of place bytes) [
-  | gives m size ↦ (let more : List Message × Option FrameFault = frames_upto n (place + size) (drop size bytes) in (m ∷ more.0, more.1))
-  | refuses why ↦ ([], Some why)
-  | waits ↦ ([], None)
-]
+frames_upto (suc n) place bytes = led_by (front_of place bytes) (λ size. frames_upto n (place + size) (drop size bytes))
 
 -- the frames of a stream, and the fault in the next place or none
 unfoldable pub frames_of : List ℕ → List Message × Option FrameFault
