@@ -1,0 +1,17 @@
+//! The frames of a session, their bytes, and the reader of a stream of them.
+#![tactic(auto)]
+
+mod frame;
+mod kind;
+mod law;
+mod next;
+mod reader;
+mod reading;
+mod room;
+mod symbols;
+mod writing;
+
+pub use frame::{Frame, FrameFault, Hello, RejectCause, Welcome};
+pub use law::law_of_frames;
+pub use reader::Reader;
+pub use writing::write_frame;
