@@ -1,10 +1,8 @@
-pub mod Feeds
-pub mod Generator
-pub mod Image
 pub mod MemoryDisk
 pub mod MemoryStreams
-pub mod Record
 pub mod SteadyDisk
 pub mod SteadyStreams
 pub mod Stops
-pub mod Tied
+
+pub use Rattle.cd_content.specs.Generator
+pub use Rattle.cd_content.specs.Record

@@ -1,7 +1,7 @@
 ghost use Rattle.cd_outside.specs.Doubt.{IsImage};
 
 use crate::FaultScript;
-use crate::content::Content;
+use cd_content::Content;
 use crate::fate::Fate;
 use crate::stop::Stop;
 use crate::tally::Tally;
@@ -20,8 +20,8 @@ pub struct MemoryDisk {
 
 impl MemoryDisk {
     ghost use Rattle.std.specs.Prelude.{◌≡◌, ◌+◌, ◌++◌, [], ◌∷◌, min, false, true, OnOk, OnErr, IfOk, Some, None};
-    ghost use Rattle.cd_memory.specs.Record.{at_first};
-    ghost use Rattle.cd_memory.specs.Generator.{left_by};
+    ghost use Rattle.cd_content.specs.Record.{at_first};
+    ghost use Rattle.cd_content.specs.Generator.{left_by};
     ghost use Rattle.cd_memory.specs.MemoryDisk.{state_of, script_of, calls_of, faults_of, is_starved, stop_of, is_stopped, ChangesState, ChangesScript};
 
     /// An empty disk, whose calls of these numbers fail.

@@ -2,16 +2,10 @@
 //! Each has a steady form, which never fails within the room that was made for it.
 #![tactic(auto)]
 
-mod bytes;
 mod clock;
-mod content;
 mod count;
 mod disk;
-mod entry;
 mod fate;
-mod feed;
-mod generator;
-mod image;
 mod script;
 mod sink;
 mod source;
@@ -19,9 +13,9 @@ mod steady_disk;
 mod stop;
 mod tally;
 
+pub use cd_content::Generator;
 pub use clock::{MemoryClock, SteadyClock};
 pub use disk::MemoryDisk;
-pub use generator::Generator;
 pub use script::FaultScript;
 pub use sink::{MemorySink, SteadySink};
 pub use source::{MemorySource, SteadySource};

@@ -1,5 +1,5 @@
 use crate::FaultScript;
-use crate::feed::Feed;
+use cd_content::Feed;
 use crate::tally::Tally;
 use cd_outside::{Failed, Source};
 use cd_types::NoMemory;

@@ -1,6 +1,6 @@
 ghost use Rattle.cd_outside.specs.Doubt.{IsImage};
 
-use crate::content::Content;
+use cd_content::Content;
 use crate::count::failed;
 use cd_outside::{Beat, Disk, Failed};
 use cd_types::NoMemory;
@@ -16,7 +16,7 @@ pub struct SteadyDisk {
 
 impl SteadyDisk {
     ghost use Rattle.std.specs.Prelude.{◌≡◌, ◌≤◌, [], OnOk, OnErr, IfOk};
-    ghost use Rattle.cd_memory.specs.Record.{at_first};
+    ghost use Rattle.cd_content.specs.Record.{at_first};
     ghost use Rattle.cd_memory.specs.SteadyDisk.{steady_state, steady_faults, calls_left, bytes_left};
 
     /// An empty disk, without room.

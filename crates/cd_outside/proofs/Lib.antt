@@ -1,4 +1,5 @@
 pub mod Contents
+pub mod FilesRuns
 pub mod Images
 pub mod Runs
 mod Writes

@@ -1,7 +1,13 @@
 pub mod Content
 pub mod Counts
+pub mod Cuts
 pub mod Disk
+pub mod Disposition
 pub mod Doubt
+pub mod Files
+pub mod Lines
 pub mod Moments
+pub mod Shelf
+pub mod Spawner
 pub mod Streams
 pub mod Through

@@ -1,0 +1,9 @@
+pub mod Feeds
+pub mod FileImage
+pub mod Generator
+pub mod Held
+pub mod Image
+pub mod Past
+pub mod Record
+pub mod Slot
+pub mod Tied

@@ -1,7 +1,0 @@
--- What is in doubt, as the fields of a content hold it.
-use Rattle.std.specs.Prelude.{reverse}
-use Rattle.cd_outside.specs.Doubt.{Doubt}
-use Rattle.cd_memory.specs.declared.image.InDoubt.{InDoubt}
-
-abbrev pub doubt_in : InDoubt → Doubt
-doubt_in a = record { base = a.base.now; ranges = reverse a.ranges.now; least = a.least; greatest = a.greatest }
