@@ -7,9 +7,11 @@ ghost use Rattle.cd_entries.specs.declared.entry.Entry.{Entry};
 ghost use Rattle.cd_entries.specs.declared.entry.Entry.TheVariants as entry;
 ghost use Rattle.cd_status.specs.Processes.{Submission, submission, submitted};
 ghost use Rattle.cd_status.specs.Status.{Open, status, outcome};
-ghost use Rattle.cd_legal.specs.Steps.{Reading};
+ghost use Rattle.cd_legal.specs.Steps.{Reading, runs_itself};
 ghost use Rattle.cd_legal.specs.Legal.{is_legal};
-ghost use Rattle.cd_legal.specs.Promises.{Landed, IsMark};
+ghost use Rattle.cd_legal.specs.Promises.{Landed, IsMark, HavePriorities, WellPlaced};
+ghost use Rattle.cd_status.specs.Queue.{placing};
+ghost use Rattle.cd_types.specs.declared.rows.Placing.{Placing};
 
 /// What a legal journal says of outcomes. A step that has one keeps it, whatever follows; what was received lands
 /// whole, with its last mark recorded; and a mark is one interval further than the last one, or 0.
@@ -31,4 +33,11 @@ pub fn law_of_numbers()
         → is_legal read journal ≡ true → submission journal n ≡ Some s → (1 ≤ n) × (n ≤ submitted journal) }
     ensures stays { (read : Reading) (more journal : List Entry) (n : ℕ) (s : Submission)
         → is_legal read (more ++ journal) ≡ true → submission journal n ≡ Some s → submission (more ++ journal) n ≡ Some s }
+{}
+
+/// What a legal journal says of queues: the priority with which a Process stands is 1 to 15, and one that is kept
+/// for its copies stands in Hold.
+pub fn law_of_placings()
+    ensures { (read : Reading) → HavePriorities read → (journal : List Entry) (n : ℕ) (placed : Placing)
+        → is_legal read journal ≡ true → placing journal n ≡ Some placed → WellPlaced (runs_itself journal n) placed }
 {}

@@ -1,0 +1,6 @@
+pub mod Closing
+pub mod Node
+pub mod Pieces
+pub mod Receiving
+pub mod Rows
+pub mod Sending
