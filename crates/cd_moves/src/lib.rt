@@ -1,10 +1,6 @@
-//! What a node does with what happens: rows of deeds.
+//! What a node does with what happens in its sessions: rows of deeds, and their laws.
 #![tactic(auto)]
 
-ghost use Rattle.std.specs.Prelude.{◌≡◌};
-ghost use Rattle.cd_moves.specs.Rows.{row_accept};
+mod law;
 
-/// test
-pub fn law()
-    ensures { row_accept ≡ row_accept }
-{}
+pub use law::law_of_rows;
