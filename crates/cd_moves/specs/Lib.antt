@@ -6,3 +6,4 @@ pub mod Receiving
 pub mod Rows
 pub mod RowsLaw
 pub mod Sending
+pub mod Worked

@@ -2,5 +2,7 @@
 #![tactic(auto)]
 
 mod law;
+mod worked;
 
 pub use law::law_of_rows;
+pub use worked::{worked_ends, worked_pieces, worked_push};
