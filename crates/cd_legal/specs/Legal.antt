@@ -1,6 +1,6 @@
 -- Which entries may follow which. A journal is the list of its entries, the newest first. `read` gives the Process whose
 -- canonical text this is, where there is one.
-use Rattle.std.specs.Prelude.{◌≡◌, ℕ, ◌+◌, ◌*◌, ◌/◌, List, [], ◌∷◌, length, sum_by, Bool, true, false, not, ◌&&◌, ◌||◌, ◌==◌, nat_le, nat_lt, is_none, Option, Some, None, if◌then◌else◌}
+use Rattle.std.specs.Prelude.{ℕ, ◌+◌, ◌*◌, ◌/◌, List, [], ◌∷◌, length, sum_by, Bool, true, false, not, ◌&&◌, ◌||◌, ◌==◌, nat_le, nat_lt, is_none, Option, Some, None}
 use Rattle.std.specs.List.{list_all}
 use Rattle.std.specs.Str.{bytes_eq}
 use Rattle.cd_types.specs.Choices.{hold_code, retain_code, disp_code, cause_code}
@@ -25,14 +25,13 @@ use Rattle.cd_types.specs.declared.rows.Receiving.{Receiving}
 use Rattle.cd_entries.specs.declared.entry.Entry.{Entry}
 use Rattle.cd_entries.specs.declared.entry.Entry.TheVariants as entry
 use Rattle.cd_ast.specs.declared.process.Process.{Process}
-use Rattle.cd_ast.specs.declared.process.Stmt.{Stmt}
 use Rattle.cd_ast.specs.declared.process.What.{What}
 use Rattle.cd_ast.specs.declared.process.What.TheVariants as what
 use Rattle.cd_status.specs.Openings.{is_in_use, is_receiving_for}
-use Rattle.cd_status.specs.Processes.{own_home, is_home_of, submitted, made_for, is_live, live_numbers, moment_of, latest, is_forgotten, is_over}
+use Rattle.cd_status.specs.Processes.{own_home, submitted, made_for, is_live, live_numbers, moment_of, latest, is_forgotten, is_over}
 use Rattle.cd_status.specs.Queue.{placing, queue_at}
 use Rattle.cd_status.specs.Status.{Status, Fresh, Started, Open, Done, status, outcome}
-use Rattle.cd_legal.specs.Steps.{Reading, stmts_of, next_place, what_at, runs_itself, pnode_keeps, is_such, is_run_of, is_pull_of, fits_own}
+use Rattle.cd_legal.specs.Steps.{Reading, stmts_of, next_place, what_at, runs_itself, pnode_keeps, is_run_of, is_pull_of, fits_own}
 
 abbrev pub is_empty : List Entry → Bool
 is_empty [] = true

@@ -1,7 +1,7 @@
 -- The laws of legal journals.
-use Rattle.std.proofs.Common.{◌≡◌, ℕ, ◌+◌, ◌<◌, ◌≤◌, Bool, true, false, cond, ◌&&◌, eqb, leb, ltb, List, [], ◌∷◌, ◌++◌, Option, Some, None, ◌⊎◌, inl, inr, refl, sym, ◌∙◌, ap, subst, arith}
-use Rattle.std.specs.Prelude.{◌≢◌, not, ◌||◌}
-use Rattle.std.proofs.lemmas.Bool.{cases_Bool, and_parts, or_cases, eqb-true, eqb-false, leb-true, not-true, false≢true, true≢false}
+use Rattle.std.proofs.Common.{◌≡◌, ℕ, ◌+◌, true, ◌&&◌, eqb, leb, List, [], ◌∷◌, ◌++◌, Some, inl, inr, refl, sym, ◌∙◌, ap, subst}
+use Rattle.std.specs.Prelude.{not, ◌||◌}
+use Rattle.std.proofs.lemmas.Bool.{cases_Bool, and_parts, or_cases, eqb-true, leb-true, false≢true}
 use Rattle.cd_types.specs.Choices.{cause_code}
 use Rattle.cd_types.specs.declared.key.Key.{Key}
 use Rattle.cd_types.specs.declared.rows.Outcomes.{Outcomes}
@@ -13,9 +13,9 @@ use Rattle.cd_status.specs.KeysLaw.{same_key-true}
 use Rattle.cd_status.specs.Processes.{moment_of, latest}
 use Rattle.cd_status.specs.Status.{Status, Fresh, Started, Open, Done, once_more, opened, marked, after, status, outcome, done_with}
 use Rattle.cd_status.specs.StatusLaw.{outcome-status, status-other, status-own}
-use Rattle.cd_legal.specs.Steps.{Reading, fits_own, pnode_keeps, is_run_of, is_pull_of}
+use Rattle.cd_legal.specs.Steps.{Reading, fits_own, pnode_keeps}
 use Rattle.cd_legal.specs.Promises.{Landed, IsMark}
-use Rattle.cd_legal.specs.Legal.{is_first, is_empty, is_from, may_follow, may_submit, may_end_from, may_land, may_drop_from, may_mark_from, last_mark, allowed, is_legal}
+use Rattle.cd_legal.specs.Legal.{is_first, is_empty, is_from, may_follow, may_end_from, may_land, may_drop_from, may_mark_from, last_mark, allowed, is_legal}
 
 -- a legal journal is one behind its newest entry too, which may follow it
 pub legal_parts : (read : Reading) (e : Entry) (journal : List Entry) → is_legal read (e ∷ journal) ≡ true → (is_legal read journal ≡ true) × (allowed read journal e ≡ true)

@@ -1,13 +1,13 @@
 -- Process numbers count up, and a submission stays as it was.
-use Rattle.std.proofs.Common.{◌≡◌, ℕ, ◌+◌, ◌<◌, ◌≤◌, Bool, true, false, cond, ◌&&◌, eqb, leb, ltb, List, [], ◌∷◌, ◌++◌, length, Option, Some, None, ◌⊎◌, inl, inr, refl, sym, ◌∙◌, ap, subst, arith}
-use Rattle.std.proofs.lemmas.Bool.{cases_Bool, and_parts, eqb-true, leb-true, cond-true, cond-false}
+use Rattle.std.proofs.Common.{◌≡◌, ℕ, ◌+◌, ◌≤◌, true, ◌&&◌, eqb, leb, ltb, List, [], ◌∷◌, ◌++◌, length, Option, Some, inl, inr, sym, ◌∙◌, ap, arith}
+use Rattle.std.proofs.lemmas.Bool.{cases_Bool, and_parts, eqb-true, leb-true, cond-false}
 use Rattle.cd_types.specs.declared.card.Filed.{Filed}
 use Rattle.cd_types.specs.declared.key.Key.{Key}
 use Rattle.cd_entries.specs.declared.entry.Entry.{Entry}
 use Rattle.cd_entries.specs.declared.entry.Entry.TheVariants as entry
 use Rattle.cd_status.specs.Processes.{Submission, submission, submitted, live_numbers}
 use Rattle.cd_legal.specs.Steps.{Reading}
-use Rattle.cd_legal.specs.Legal.{may_submit, is_filed, is_new_origin, is_legal}
+use Rattle.cd_legal.specs.Legal.{is_filed, is_new_origin, is_legal}
 use Rattle.cd_legal.specs.LegalLaw.{legal_parts, follows}
 
 -- a submission has the next number

@@ -1,9 +1,9 @@
 -- Where the live Processes of a legal journal stand.
-use Rattle.std.proofs.Common.{◌≡◌, ℕ, ◌+◌, ◌<◌, ◌≤◌, Bool, true, false, cond, ◌&&◌, eqb, leb, ltb, List, [], ◌∷◌, length, Option, Some, None, ◌⊎◌, inl, inr, refl, sym, ◌∙◌, ap, subst, arith}
+use Rattle.std.proofs.Common.{◌≡◌, ℕ, ◌+◌, ◌≤◌, Bool, true, false, cond, ◌&&◌, eqb, leb, ltb, List, [], ◌∷◌, length, Option, Some, None, inl, inr, refl, sym, ◌∙◌, ap, subst, arith}
 use Rattle.std.specs.Prelude.{◌||◌}
 use Rattle.std.specs.List.{list_all}
 use Rattle.std.specs.Str.{bytes_eq}
-use Rattle.std.proofs.lemmas.Bool.{cases_Bool, and_parts, eqb-true, leb-true, cond-true, cond-false, or_right, false≢true}
+use Rattle.std.proofs.lemmas.Bool.{cases_Bool, and_parts, eqb-true, leb-true, cond-true, cond-false, false≢true}
 use Rattle.cd_types.specs.Choices.{hold_code, retain_code}
 use Rattle.cd_types.specs.declared.card.Filed.{Filed}
 use Rattle.cd_types.specs.declared.choices.Hold.{Hold}
@@ -54,9 +54,9 @@ filed_prty read priorities card text None is fits = absurd (false≢true fits)
 filed_prty read priorities card text (Some process) is fits =
     let own = (and_parts (is_card_of card process) (list_all (λ s. says_interval s.what && has_small_symbols s.what) process.stmts) fits).0 in
     let five = and_parts (bytes_eq card.name process.name && is_snode_of card.snode process.card.snode && eqb card.prty process.card.prty && eqb card.class process.card.class && eqb (hold_code card.hold) (hold_code process.card.hold))
-        (eqb (retain_code card.retain) (retain_code process.card.retain)) own in
+    (eqb (retain_code card.retain) (retain_code process.card.retain)) own in
     let four = and_parts (bytes_eq card.name process.name && is_snode_of card.snode process.card.snode && eqb card.prty process.card.prty && eqb card.class process.card.class)
-        (eqb (hold_code card.hold) (hold_code process.card.hold)) five.0 in
+    (eqb (hold_code card.hold) (hold_code process.card.hold)) five.0 in
     let three = and_parts (bytes_eq card.name process.name && is_snode_of card.snode process.card.snode && eqb card.prty process.card.prty) (eqb card.class process.card.class) four.0 in
     let two = and_parts (bytes_eq card.name process.name && is_snode_of card.snode process.card.snode) (eqb card.prty process.card.prty) three.0 in
     let same : card.prty ≡ process.card.prty = eqb-true card.prty process.card.prty two.1 in
@@ -85,26 +85,26 @@ unfolding placing submission
 well_placed read priorities [] n placed legal is = absurd cc
 well_placed read priorities (entry.Placed number p moment ∷ journal) n placed legal is =
     elim (cases_Bool (eqb number n)) [
-      inl own ↦
-        let same : p ≡ placed = some_same p placed (sym (cond-true (eqb number n) (Some p) (placing journal n) own) ∙ is) in
-        let well : WellPlaced (runs_itself journal number) p = placed_well journal number p (follows read _ journal legal) in
-        let here : WellPlaced (runs_itself journal n) p = subst (λ (m : ℕ). WellPlaced (runs_itself journal m) p) (eqb-true number n own) well in
-        subst (λ (q : Placing). WellPlaced (runs_itself journal n) q) same here
-    | inr other ↦
-        well_placed read priorities journal n placed (legal_parts read _ journal legal).0 (sym (cond-false (eqb number n) (Some p) (placing journal n) other) ∙ is)
+      | inl own ↦
+          let same : p ≡ placed = some_same p placed (sym (cond-true (eqb number n) (Some p) (placing journal n) own) ∙ is) in
+          let well : WellPlaced (runs_itself journal number) p = placed_well journal number p (follows read _ journal legal) in
+          let here : WellPlaced (runs_itself journal n) p = subst (λ (m : ℕ). WellPlaced (runs_itself journal m) p) (eqb-true number n own) well in
+          subst (λ (q : Placing). WellPlaced (runs_itself journal n) q) same here
+      | inr other ↦
+          well_placed read priorities journal n placed (legal_parts read _ journal legal).0 (sym (cond-false (eqb number n) (Some p) (placing journal n) other) ∙ is)
     ]
 well_placed read priorities (entry.Submitted number moment origin card text ∷ journal) n placed legal is =
     elim (cases_Bool (eqb number n)) [
-      inl own ↦
-        let same : first_placing card moment ≡ placed = some_same (first_placing card moment) placed (sym (cond-true (eqb number n) (Some (first_placing card moment)) (placing journal n) own) ∙ is) in
-        let range = filed_prty read priorities card text (read text) refl (submitted_filed read journal number origin card text (follows read _ journal legal)) in
-        let prty : (first_placing card moment).prty ≡ card.prty = by_retain-prty card moment card.retain in
-        let well : WellPlaced (eqb (retain_code card.retain) 0) (first_placing card moment) =
-            record { low = omega (arith, prty, range.0); high = omega (arith, prty, range.1); held = by_retain-held card moment card.retain } in
-        let there : WellPlaced (eqb (retain_code card.retain) 0) placed = subst (λ (q : Placing). WellPlaced (eqb (retain_code card.retain) 0) q) same well in
-        subst (λ (b : Bool). WellPlaced b placed) (sym (ap is_unretained (cond-true (eqb number n) (Some (record { moment = moment; origin = origin; card = card; text = text })) (submission journal n) own))) there
-    | inr other ↦
-        let before = well_placed read priorities journal n placed (legal_parts read _ journal legal).0 (sym (cond-false (eqb number n) (Some (first_placing card moment)) (placing journal n) other) ∙ is) in
-        subst (λ (b : Bool). WellPlaced b placed) (sym (ap is_unretained (cond-false (eqb number n) (Some (record { moment = moment; origin = origin; card = card; text = text })) (submission journal n) other))) before
+      | inl own ↦
+          let same : first_placing card moment ≡ placed = some_same (first_placing card moment) placed (sym (cond-true (eqb number n) (Some (first_placing card moment)) (placing journal n) own) ∙ is) in
+          let range = filed_prty read priorities card text (read text) refl (submitted_filed read journal number origin card text (follows read _ journal legal)) in
+          let prty : (first_placing card moment).prty ≡ card.prty = by_retain-prty card moment card.retain in
+          let well : WellPlaced (eqb (retain_code card.retain) 0) (first_placing card moment) =
+          record { low = omega (arith, prty, range.0); high = omega (arith, prty, range.1); held = by_retain-held card moment card.retain } in
+          let there : WellPlaced (eqb (retain_code card.retain) 0) placed = subst (λ (q : Placing). WellPlaced (eqb (retain_code card.retain) 0) q) same well in
+          subst (λ (b : Bool). WellPlaced b placed) (sym (ap is_unretained (cond-true (eqb number n) (Some (record { moment = moment; origin = origin; card = card; text = text })) (submission journal n) own))) there
+      | inr other ↦
+          let before = well_placed read priorities journal n placed (legal_parts read _ journal legal).0 (sym (cond-false (eqb number n) (Some (first_placing card moment)) (placing journal n) other) ∙ is) in
+          subst (λ (b : Bool). WellPlaced b placed) (sym (ap is_unretained (cond-false (eqb number n) (Some (record { moment = moment; origin = origin; card = card; text = text })) (submission journal n) other))) before
     ]
 well_placed read priorities (e ∷ journal) n placed legal is = well_placed read priorities journal n placed (legal_parts read _ journal legal).0 is

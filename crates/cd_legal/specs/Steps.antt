@@ -4,7 +4,6 @@ use Rattle.std.specs.Prelude.{ℕ, List, [], Bool, true, false, not, ◌&&◌, �
 use Rattle.std.specs.Str.{bytes_eq}
 use Rattle.cd_types.specs.Choices.{disp_code, task_kind_code, retain_code}
 use Rattle.cd_types.specs.Format.{◌>>=◌}
-use Rattle.cd_types.specs.declared.choices.Retain.TheVariants as retain
 use Rattle.cd_types.specs.declared.choices.Side.{Side}
 use Rattle.cd_types.specs.declared.choices.Side.TheVariants as side
 use Rattle.cd_types.specs.declared.choices.TaskKind.{TaskKind}

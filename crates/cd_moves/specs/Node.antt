@@ -1,8 +1,6 @@
 -- A node as its rules see it: its journal, its files, its sessions, and what it knows of its partners.
-use Rattle.std.specs.Prelude.{ℕ, List, [], ◌∷◌, ◌++◌, Bool, true, false, ◌&&◌, ◌==◌, Option, Some, None, if◌then◌else◌}
-use Rattle.std.specs.Str.{bytes_eq}
+use Rattle.std.specs.Prelude.{ℕ, List, [], ◌∷◌, ◌++◌, Bool, ◌==◌, Option, Some, if◌then◌else◌}
 use Rattle.cd_types.specs.declared.choices.Side.{Side}
-use Rattle.cd_types.specs.declared.choices.TaskKind.{TaskKind}
 use Rattle.cd_types.specs.declared.key.Key.{Key}
 use Rattle.cd_entries.specs.declared.entry.Entry.{Entry}
 use Rattle.cd_outside.specs.Shelf.{Shelf, FileChange, changed}

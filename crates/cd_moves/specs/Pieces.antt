@@ -1,5 +1,5 @@
 -- The pieces in which a source is sent.
-use Rattle.std.specs.Prelude.{ℕ, ◌+◌, ◌*◌, ◌/◌, ◌-◌, min, Bool, ◌==◌, if◌then◌else◌}
+use Rattle.std.specs.Prelude.{ℕ, ◌+◌, ◌*◌, ◌/◌, min, ◌==◌, if◌then◌else◌}
 
 -- the next multiple of the interval behind an offset, and the length where there are no marks
 abbrev pub next_multiple : ℕ → ℕ → ℕ → ℕ

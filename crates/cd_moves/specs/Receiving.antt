@@ -1,41 +1,25 @@
 -- Receiving a file: from the first entry to the outcome.
-use Rattle.std.specs.Prelude.{ℕ, zero, suc, ◌+◌, ◌-◌, ◌*◌, ◌/◌, ◌%◌, List, [], ◌∷◌, ◌++◌, length, min, Bool, true, false, not, ◌&&◌, ◌||◌, ◌==◌, nat_le, nat_lt, Option, Some, None, if◌then◌else◌}
+use Rattle.std.specs.Prelude.{ℕ, ◌+◌, ◌%◌, List, [], ◌∷◌, ◌++◌, length, Bool, true, false, not, ◌&&◌, ◌||◌, ◌==◌, nat_le, Option, Some, None, if◌then◌else◌}
 use Rattle.std.specs.Str.{bytes_eq}
 use Rattle.cd_types.specs.Choices.{disp_code}
 use Rattle.cd_types.specs.declared.choices.Cause.{Cause}
 use Rattle.cd_types.specs.declared.choices.Cause.TheVariants as cause
 use Rattle.cd_types.specs.declared.choices.Disp.{Disp}
 use Rattle.cd_types.specs.declared.choices.Disp.TheVariants as disp
-use Rattle.cd_types.specs.declared.choices.How.TheVariants as how
-use Rattle.cd_types.specs.declared.choices.Queue.TheVariants as queue
-use Rattle.cd_types.specs.declared.choices.Reason.TheVariants as reason
 use Rattle.cd_types.specs.declared.choices.Side.{Side}
-use Rattle.cd_types.specs.declared.choices.Side.TheVariants as side
 use Rattle.cd_types.specs.declared.key.Key.{Key}
 use Rattle.cd_types.specs.declared.rows.Outcomes.{Outcomes}
-use Rattle.cd_types.specs.declared.rows.Placing.{Placing}
 use Rattle.cd_types.specs.declared.rows.Receiving.{Receiving}
 use Rattle.cd_entries.specs.declared.entry.Entry.{Entry}
 use Rattle.cd_entries.specs.declared.entry.Entry.TheVariants as entry
-use Rattle.cd_ast.specs.declared.process.CopyStep.{CopyStep}
-use Rattle.cd_ast.specs.declared.process.What.{What}
-use Rattle.cd_ast.specs.declared.process.What.TheVariants as what
 use Rattle.cd_frames.specs.Message as message
 use Rattle.cd_frames.specs.Message.{Message}
-use Rattle.cd_frames.specs.declared.frame.Hello.{Hello}
-use Rattle.cd_frames.specs.declared.frame.RejectCause.{RejectCause}
-use Rattle.cd_frames.specs.declared.frame.RejectCause.TheVariants as reject
-use Rattle.cd_frames.specs.declared.frame.Welcome.{Welcome}
 use Rattle.cd_outside.specs.Shelf.{FileChange, WriteFile, CutFile, SyncFile, RemoveFile}
-use Rattle.cd_status.specs.Keys.{same_key}
-use Rattle.cd_status.specs.Openings.{is_in_use, is_receiving_for}
-use Rattle.cd_status.specs.Processes.{Submission, submission, own_home, is_live, latest, is_forgotten, is_over}
-use Rattle.cd_status.specs.Queue.{Waits, placing, queue_at, runs_in, stands, retried}
+use Rattle.cd_status.specs.Openings.{is_in_use}
 use Rattle.cd_status.specs.Status as status
 use Rattle.cd_status.specs.Status.{Status, outcome}
-use Rattle.cd_legal.specs.Legal.{allowed, greatest_file, is_resized}
-use Rattle.cd_legal.specs.Steps.{next_place, what_at, stmts_of}
-use Rattle.cd_moves.specs.Node.{Talk, Source, Phase, Gone, Greet, Await, Ask, Fresh, Ready, Offer, Send, Take, Config, Node, Deed, Keep, Touch, AskSize, AskBytes, Give, Go, recorded, did, Answers}
+use Rattle.cd_legal.specs.Legal.{greatest_file}
+use Rattle.cd_moves.specs.Node.{Talk, Phase, Take, Node, Deed, Keep, Touch, AskSize, Go, recorded, Answers}
 use Rattle.cd_moves.specs.Closing.{close}
 use Rattle.cd_moves.specs.Sending.{settle}
 
@@ -104,8 +88,13 @@ is_new _ = false
 
 abbrev pub receiving_of : Key → Announced → Option ℕ → Receiving
 receiving_of key a there = record {
-  key = key; name = a.name; disp = a.disp; there = is_there there;
-  base = kept_base a.disp there; length = a.length; interval = a.interval;
+  key = key;
+  name = a.name;
+  disp = a.disp;
+  there = is_there there;
+  base = kept_base a.disp there;
+  length = a.length;
+  interval = a.interval;
 }
 
 -- of a step that is new: the file must be free, with NEW missing, and the whole not too large
@@ -113,9 +102,9 @@ abbrev pub receive_first : Side → Node → Talk → Key → Announced → Answ
 receive_first role node talk key a answers =
     if is_in_use node.journal key a.name then answer role node talk key (failed cause.InUse) answers
     else AskSize a.name
-      ∷ (if is_new a.disp && is_there answers.there then answer role node talk key (failed cause.Exists) answers
-         else if nat_le (kept_base a.disp answers.there + a.length) greatest_file then receive_anew role talk (receiving_of key a answers.there)
-         else answer role node talk key (failed cause.TooLarge) answers)
+    ∷ (if is_new a.disp && is_there answers.there then answer role node talk key (failed cause.Exists) answers
+    else if nat_le (kept_base a.disp answers.there + a.length) greatest_file then receive_anew role talk (receiving_of key a answers.there)
+    else answer role node talk key (failed cause.TooLarge) answers)
 
 abbrev pub receive_from : Side → Node → Phase → Talk → Key → Announced → Answers → Status → List Deed
 receive_from role node phase talk key a answers (status.Open r safe) = receive_again role node phase talk r safe a answers

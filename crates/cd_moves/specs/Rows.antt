@@ -1,13 +1,9 @@
 -- What a node does with what happens in a session: for each phase, a row of deeds for each frame. A frame that has no row
 -- closes the session.
-use Rattle.std.specs.Prelude.{ℕ, zero, suc, ◌+◌, ◌-◌, ◌*◌, ◌/◌, ◌%◌, List, [], ◌∷◌, ◌++◌, length, min, Bool, true, false, not, ◌&&◌, ◌||◌, ◌==◌, nat_le, nat_lt, Option, Some, None, if◌then◌else◌}
+use Rattle.std.specs.Prelude.{ℕ, List, [], ◌∷◌, ◌++◌, length, min, Bool, true, false, not, ◌&&◌, ◌||◌, ◌==◌, nat_le, nat_lt, Option, Some, None, if◌then◌else◌}
 use Rattle.std.specs.Str.{bytes_eq}
-use Rattle.cd_types.specs.Choices.{disp_code}
 use Rattle.cd_types.specs.declared.choices.Cause.{Cause}
 use Rattle.cd_types.specs.declared.choices.Cause.TheVariants as cause
-use Rattle.cd_types.specs.declared.choices.Disp.{Disp}
-use Rattle.cd_types.specs.declared.choices.Disp.TheVariants as disp
-use Rattle.cd_types.specs.declared.choices.How.TheVariants as how
 use Rattle.cd_types.specs.declared.choices.Queue.TheVariants as queue
 use Rattle.cd_types.specs.declared.choices.Reason.TheVariants as reason
 use Rattle.cd_types.specs.declared.choices.Side.{Side}
@@ -18,26 +14,21 @@ use Rattle.cd_types.specs.declared.rows.Placing.{Placing}
 use Rattle.cd_types.specs.declared.rows.Receiving.{Receiving}
 use Rattle.cd_entries.specs.declared.entry.Entry.{Entry}
 use Rattle.cd_entries.specs.declared.entry.Entry.TheVariants as entry
-use Rattle.cd_ast.specs.declared.process.CopyStep.{CopyStep}
 use Rattle.cd_ast.specs.declared.process.What.{What}
 use Rattle.cd_ast.specs.declared.process.What.TheVariants as what
 use Rattle.cd_frames.specs.Message as message
 use Rattle.cd_frames.specs.Message.{Message}
 use Rattle.cd_frames.specs.declared.frame.Hello.{Hello}
-use Rattle.cd_frames.specs.declared.frame.RejectCause.{RejectCause}
 use Rattle.cd_frames.specs.declared.frame.RejectCause.TheVariants as reject
 use Rattle.cd_frames.specs.declared.frame.Welcome.{Welcome}
-use Rattle.cd_outside.specs.Shelf.{FileChange, WriteFile, CutFile, SyncFile, RemoveFile}
 use Rattle.cd_status.specs.Keys.{same_key}
-use Rattle.cd_status.specs.Openings.{is_in_use, is_receiving_for}
-use Rattle.cd_status.specs.Processes.{Submission, submission, own_home, is_live, latest, is_forgotten, is_over}
-use Rattle.cd_status.specs.Queue.{Waits, placing, queue_at, runs_in, stands, retried}
+use Rattle.cd_status.specs.Openings.{is_receiving_for}
+use Rattle.cd_status.specs.Processes.{Submission, submission, own_home, is_live, is_forgotten, is_over}
+use Rattle.cd_status.specs.Queue.{Waits, placing, stands, retried}
 use Rattle.cd_status.specs.Status as status
 use Rattle.cd_status.specs.Status.{Status, outcome}
-use Rattle.cd_legal.specs.Legal.{allowed, greatest_file, is_resized}
-use Rattle.cd_legal.specs.Steps.{next_place, what_at, stmts_of}
-use Rattle.cd_moves.specs.Node.{Talk, Source, Phase, Gone, Greet, Await, Ask, Fresh, Ready, Offer, Send, Take, Config, Node, Deed, Keep, Touch, AskSize, AskBytes, Give, Go, recorded, did, Answers}
-use Rattle.cd_moves.specs.Pieces.{piece_end}
+use Rattle.cd_legal.specs.Legal.{allowed, greatest_file}
+use Rattle.cd_moves.specs.Node.{Talk, Source, Phase, Gone, Greet, Await, Ask, Fresh, Ready, Offer, Send, Take, Node, Deed, Keep, Touch, AskSize, AskBytes, Give, Go, recorded, Answers}
 use Rattle.std.specs.List.{filter_map}
 use Rattle.cd_types.specs.declared.choices.Queue.{Queue}
 use Rattle.cd_types.specs.declared.choices.Reason.{Reason}

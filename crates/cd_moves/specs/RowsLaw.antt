@@ -1,5 +1,5 @@
 -- Whatever comes in whatever phase, each deed of its row leaves a legal journal that has the earlier one behind it.
-use Rattle.std.proofs.Common.{◌≡◌, ℕ, ◌+◌, ◌<◌, ◌≤◌, Bool, true, false, cond, ◌&&◌, eqb, leb, ltb, List, [], ◌∷◌, ◌++◌, Option, Some, None, ◌⊎◌, inl, inr, refl, sym, ◌∙◌, ap, subst, min, arith}
+use Rattle.std.proofs.Common.{◌≡◌, ℕ, ◌+◌, ◌≤◌, Bool, true, false, cond, ◌&&◌, leb, List, [], ◌∷◌, ◌++◌, Option, Some, None, inl, inr, refl, sym, ◌∙◌, ap, subst, min, arith}
 use Rattle.std.specs.Prelude.{◌||◌, not}
 use Rattle.std.proofs.lemmas.Bool.{cases_Bool, and_parts, and_from, or_cases, or_left, le-leb, cond-true, cond-false, false≢true}
 use Rattle.cd_types.specs.declared.choices.Queue.{Queue}
@@ -8,9 +8,9 @@ use Rattle.cd_types.specs.declared.rows.Placing.{Placing}
 use Rattle.cd_entries.specs.declared.entry.Entry.{Entry}
 use Rattle.cd_entries.specs.declared.entry.Entry.TheVariants as entry
 use Rattle.cd_frames.specs.Message.{Message}
-use Rattle.cd_status.specs.Processes.{Submission, submission, is_live, latest, moment_of}
-use Rattle.cd_status.specs.Queue.{Waits, placing, queue_at, queue_of, runs_in, retried, after_attempts}
-use Rattle.cd_legal.specs.Legal.{allowed, is_legal, is_first, is_empty, is_from, may_place, is_reason_in, is_hold}
+use Rattle.cd_status.specs.Processes.{submission, is_live, latest}
+use Rattle.cd_status.specs.Queue.{Waits, placing, queue_of, runs_in, retried, after_attempts}
+use Rattle.cd_legal.specs.Legal.{allowed, is_legal, is_empty, may_place, is_reason_in, is_hold}
 use Rattle.cd_legal.specs.PlacingsLaw.{well_placed}
 use Rattle.cd_legal.specs.Promises.{HavePriorities, WellPlaced}
 use Rattle.cd_legal.specs.Steps.{Reading, runs_itself}
@@ -44,9 +44,9 @@ part_extends sid [] node = ([], refl)
 part_extends sid (Keep e ∷ done) node =
     let rest = part_extends sid done (recorded e node) in
     (rest.0 ++ e ∷ [], rest.1 ∙ moved rest.0 e node.journal) where
-  moved : (later : List Entry) (e : Entry) (journal : List Entry) → later ++ e ∷ journal ≡ (later ++ e ∷ []) ++ journal
-  moved [] e journal = refl
-  moved (x ∷ later) e journal = ap (λ (rest : List Entry). x ∷ rest) (moved later e journal)
+      moved : (later : List Entry) (e : Entry) (journal : List Entry) → later ++ e ∷ journal ≡ (later ++ e ∷ []) ++ journal
+      moved [] e journal = refl
+      moved (x ∷ later) e journal = ap (λ (rest : List Entry). x ∷ rest) (moved later e journal)
 part_extends sid (Touch change ∷ done) node = part_extends sid done (did sid (Touch change) node)
 part_extends sid (AskSize name ∷ done) node = part_extends sid done node
 part_extends sid (AskBytes name at len ∷ done) node = part_extends sid done node
@@ -94,14 +94,14 @@ module _ (node : Node) (priorities : HavePriorities node.config.read) (legal : i
       let prty : again.prty ≡ placed.prty = retried_prty waits now (min (placed.attempts + 1) 65535) placed.prty in
       let why : is_reason_in again.queue again.reason ≡ true = retried_reason waits now (min (placed.attempts + 1) 65535) placed.prty in
       let itself : runs_itself node.journal n ≡ true =
-          elim (or_cases (runs_itself node.journal n) (is_hold placed.queue) well.held) [
-            inl runs_it ↦ runs_it
-          | inr held ↦ absurd (false≢true (sym (not_held now placed runs) ∙ held))
-          ] in
+      elim (or_cases (runs_itself node.journal n) (is_hold placed.queue) well.held) [
+        | inl runs_it ↦ runs_it
+        | inr held ↦ absurd (false≢true (sym (not_held now placed runs) ∙ held))
+      ] in
       let low : leb 1 again.prty ≡ true = le-leb 1 again.prty (omega (arith, prty, well.low)) in
       let high : leb again.prty 15 ≡ true = le-leb again.prty 15 (omega (arith, prty, well.high)) in
       let place : may_place node.journal n again ≡ true =
-          and_from _ _ (and_from _ _ (and_from _ _ (and_from _ _ live why) low) high) (or_left (runs_itself node.journal n) (is_hold again.queue) itself) in
+      and_from _ _ (and_from _ _ (and_from _ _ (and_from _ _ live why) low) high) (or_left (runs_itself node.journal n) (is_hold again.queue) itself) in
       and_from _ _ (and_from _ _ (not_empty node.journal n live) (le-leb (latest node.journal) now on_time)) place
 
   retry_fits : (n : ℕ) (found : Option Placing) (last : Deed) → placing node.journal n ≡ found → are_allowed node.config.read node.journal (last ∷ []) ≡ true
@@ -110,17 +110,17 @@ module _ (node : Node) (priorities : HavePriorities node.config.read) (legal : i
   retry_fits n None last is plain always = plain
   retry_fits n (Some placed) last is plain always =
       elim (cases_Bool (is_live node.journal n && is_running now placed)) [
-        inl runs ↦
-          let parts = and_parts (is_live node.journal n) (is_running now placed) runs in
-          let e : Entry = entry.Placed n (retried (waits_for node (submission node.journal n)) now placed) now in
-          let kept : are_allowed node.config.read node.journal (Keep e ∷ last ∷ []) ≡ true =
-              and_from (allowed node.config.read node.journal e) (are_allowed node.config.read (e ∷ node.journal) (last ∷ []))
-              (retry_allowed n placed (waits_for node (submission node.journal n)) is parts.0 parts.1) (always (e ∷ node.journal)) in
-          subst (λ (deeds : List Deed). are_allowed node.config.read node.journal (deeds ++ last ∷ []) ≡ true)
-          (sym (cond-true (is_live node.journal n && is_running now placed) (Keep e ∷ []) [] runs)) kept
-      | inr rests ↦
-          subst (λ (deeds : List Deed). are_allowed node.config.read node.journal (deeds ++ last ∷ []) ≡ true)
-          (sym (cond-false (is_live node.journal n && is_running now placed) _ [] rests)) plain
+        | inl runs ↦
+            let parts = and_parts (is_live node.journal n) (is_running now placed) runs in
+            let e : Entry = entry.Placed n (retried (waits_for node (submission node.journal n)) now placed) now in
+            let kept : are_allowed node.config.read node.journal (Keep e ∷ last ∷ []) ≡ true =
+            and_from (allowed node.config.read node.journal e) (are_allowed node.config.read (e ∷ node.journal) (last ∷ []))
+            (retry_allowed n placed (waits_for node (submission node.journal n)) is parts.0 parts.1) (always (e ∷ node.journal)) in
+            subst (λ (deeds : List Deed). are_allowed node.config.read node.journal (deeds ++ last ∷ []) ≡ true)
+            (sym (cond-true (is_live node.journal n && is_running now placed) (Keep e ∷ []) [] runs)) kept
+        | inr rests ↦
+            subst (λ (deeds : List Deed). are_allowed node.config.read node.journal (deeds ++ last ∷ []) ≡ true)
+            (sym (cond-false (is_live node.journal n && is_running now placed) _ [] rests)) plain
       ]
 
   end_fits : (own : Option ℕ) (frames : List Message) → are_allowed node.config.read node.journal (retry_own node now own ++ Go Gone frames ∷ []) ≡ true
@@ -138,8 +138,8 @@ checked_fits : (node : Node) (deeds otherwise : List Deed) → are_allowed node.
     → are_allowed node.config.read node.journal (checked node deeds otherwise) ≡ true
 checked_fits node deeds otherwise plain =
     elim (cases_Bool (are_allowed node.config.read node.journal deeds)) [
-      inl fits ↦ subst (λ (chosen : List Deed). are_allowed node.config.read node.journal chosen ≡ true) (sym (cond-true (are_allowed node.config.read node.journal deeds) deeds otherwise fits)) fits
-    | inr not_fits ↦ subst (λ (chosen : List Deed). are_allowed node.config.read node.journal chosen ≡ true) (sym (cond-false (are_allowed node.config.read node.journal deeds) deeds otherwise not_fits)) plain
+      | inl fits ↦ subst (λ (chosen : List Deed). are_allowed node.config.read node.journal chosen ≡ true) (sym (cond-true (are_allowed node.config.read node.journal deeds) deeds otherwise fits)) fits
+      | inr not_fits ↦ subst (λ (chosen : List Deed). are_allowed node.config.read node.journal chosen ≡ true) (sym (cond-false (are_allowed node.config.read node.journal deeds) deeds otherwise not_fits)) plain
     ]
 
 stays : (sid : ℕ) (node : Node) (deeds : List Deed) → is_legal node.config.read node.journal ≡ true → are_allowed node.config.read node.journal deeds ≡ true
@@ -156,10 +156,10 @@ row_stays node priorities sid answers m legal on_time =
     let closed : are_allowed node.config.read node.journal (close node answers.now (node.phase sid)) ≡ true = close_fits node priorities legal answers.now on_time (node.phase sid) in
     let gone : Bool = is_dead node (own_number (node.phase sid)) || is_detached node sid (key_under_way (node.phase sid)) in
     let fits : are_allowed node.config.read node.journal (row node sid answers m) ≡ true =
-        elim gone as (λ b. are_allowed node.config.read node.journal (cond b (close node answers.now (node.phase sid)) (checked node (row_in node sid answers m (node.phase sid)) (close node answers.now (node.phase sid)))) ≡ true) [
-          true ↦ closed
-        | false ↦ checked_fits node (row_in node sid answers m (node.phase sid)) (close node answers.now (node.phase sid)) closed
-        ] in
+    elim gone as (λ b. are_allowed node.config.read node.journal (cond b (close node answers.now (node.phase sid)) (checked node (row_in node sid answers m (node.phase sid)) (close node answers.now (node.phase sid)))) ≡ true) [
+      | true ↦ closed
+      | false ↦ checked_fits node (row_in node sid answers m (node.phase sid)) (close node answers.now (node.phase sid)) closed
+    ] in
     stays sid node (row node sid answers m) legal fits
 
 pub row_end_stays : (node : Node) → HavePriorities node.config.read → (sid now : ℕ)

@@ -1,20 +1,11 @@
 -- Sending a source, and taking the step that comes next.
-use Rattle.std.specs.Prelude.{ℕ, zero, suc, ◌+◌, ◌-◌, ◌*◌, ◌/◌, ◌%◌, List, [], ◌∷◌, ◌++◌, length, min, Bool, true, false, not, ◌&&◌, ◌||◌, ◌==◌, nat_le, nat_lt, Option, Some, None, if◌then◌else◌}
-use Rattle.std.specs.Str.{bytes_eq}
-use Rattle.cd_types.specs.Choices.{disp_code}
-use Rattle.cd_types.specs.declared.choices.Cause.{Cause}
+use Rattle.std.specs.Prelude.{ℕ, zero, suc, ◌+◌, ◌-◌, List, [], ◌∷◌, length, ◌==◌, nat_le, Option, Some, None, if◌then◌else◌}
 use Rattle.cd_types.specs.declared.choices.Cause.TheVariants as cause
-use Rattle.cd_types.specs.declared.choices.Disp.{Disp}
-use Rattle.cd_types.specs.declared.choices.Disp.TheVariants as disp
 use Rattle.cd_types.specs.declared.choices.How.TheVariants as how
-use Rattle.cd_types.specs.declared.choices.Queue.TheVariants as queue
-use Rattle.cd_types.specs.declared.choices.Reason.TheVariants as reason
 use Rattle.cd_types.specs.declared.choices.Side.{Side}
 use Rattle.cd_types.specs.declared.choices.Side.TheVariants as side
 use Rattle.cd_types.specs.declared.key.Key.{Key}
 use Rattle.cd_types.specs.declared.rows.Outcomes.{Outcomes}
-use Rattle.cd_types.specs.declared.rows.Placing.{Placing}
-use Rattle.cd_types.specs.declared.rows.Receiving.{Receiving}
 use Rattle.cd_entries.specs.declared.entry.Entry.{Entry}
 use Rattle.cd_entries.specs.declared.entry.Entry.TheVariants as entry
 use Rattle.cd_ast.specs.declared.process.CopyStep.{CopyStep}
@@ -22,20 +13,11 @@ use Rattle.cd_ast.specs.declared.process.What.{What}
 use Rattle.cd_ast.specs.declared.process.What.TheVariants as what
 use Rattle.cd_frames.specs.Message as message
 use Rattle.cd_frames.specs.Message.{Message}
-use Rattle.cd_frames.specs.declared.frame.Hello.{Hello}
-use Rattle.cd_frames.specs.declared.frame.RejectCause.{RejectCause}
-use Rattle.cd_frames.specs.declared.frame.RejectCause.TheVariants as reject
-use Rattle.cd_frames.specs.declared.frame.Welcome.{Welcome}
-use Rattle.cd_outside.specs.Shelf.{FileChange, WriteFile, CutFile, SyncFile, RemoveFile}
-use Rattle.cd_status.specs.Keys.{same_key}
-use Rattle.cd_status.specs.Openings.{is_in_use, is_receiving_for}
-use Rattle.cd_status.specs.Processes.{Submission, submission, own_home, is_live, latest, is_forgotten, is_over}
-use Rattle.cd_status.specs.Queue.{Waits, placing, queue_at, runs_in, stands, retried}
-use Rattle.cd_status.specs.Status as status
-use Rattle.cd_status.specs.Status.{Status, outcome}
-use Rattle.cd_legal.specs.Legal.{allowed, greatest_file, is_resized}
+use Rattle.cd_status.specs.Processes.{own_home}
+use Rattle.cd_status.specs.Status.{outcome}
+use Rattle.cd_legal.specs.Legal.{greatest_file}
 use Rattle.cd_legal.specs.Steps.{next_place, what_at, stmts_of}
-use Rattle.cd_moves.specs.Node.{Talk, Source, Phase, Gone, Greet, Await, Ask, Fresh, Ready, Offer, Send, Take, Config, Node, Deed, Keep, Touch, AskSize, AskBytes, Give, Go, recorded, did, Answers}
+use Rattle.cd_moves.specs.Node.{Talk, Source, Phase, Gone, Greet, Await, Ask, Ready, Send, Node, Deed, Keep, AskSize, AskBytes, Give, Go, recorded, Answers}
 use Rattle.cd_moves.specs.Pieces.{piece_end}
 use Rattle.cd_moves.specs.Closing.{close}
 
@@ -54,9 +36,9 @@ abbrev pub send_from : Side → Talk → Key → Source → ℕ → Answers → 
 send_from role talk key source offset answers =
     if offset == source.length then Go (after_sending role talk key source) (message.End key source.length ∷ []) ∷ []
     else AskBytes source.name offset (piece_len talk source offset)
-      ∷ (if length answers.bytes == piece_len talk source offset
-         then Go (Send role talk key source (offset + piece_len talk source offset)) (message.Data key offset answers.bytes ∷ [])
-         else Go (after_sending role talk key source) (message.Abort key cause.SourceChanged ∷ [])) ∷ []
+    ∷ (if length answers.bytes == piece_len talk source offset
+    then Go (Send role talk key source (offset + piece_len talk source offset)) (message.Data key offset answers.bytes ∷ [])
+    else Go (after_sending role talk key source) (message.Abort key cause.SourceChanged ∷ [])) ∷ []
 
 -- The step that comes next.
 
@@ -141,4 +123,3 @@ next node n talk answers = next_within (length (stmts_of node.config.read node.j
 abbrev pub settle : Side → Node → Talk → Key → Outcomes → Answers → List Deed
 settle side.Snode node talk key o answers = Go (Ready talk (Some key)) (message.Result key o ∷ []) ∷ []
 settle side.Pnode node talk key o answers = Keep (ended_as key o answers.now) ∷ next (recorded (ended_as key o answers.now) node) key.number talk answers
-

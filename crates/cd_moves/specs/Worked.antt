@@ -15,7 +15,6 @@ use Rattle.cd_entries.specs.declared.entry.Entry.{Entry}
 use Rattle.cd_entries.specs.declared.entry.Entry.TheVariants as entry
 use Rattle.cd_ast.specs.declared.process.CopyStep.{CopyStep}
 use Rattle.cd_ast.specs.declared.process.Process.{Process}
-use Rattle.cd_ast.specs.declared.process.Stmt.{Stmt}
 use Rattle.cd_ast.specs.declared.process.What.TheVariants as what
 use Rattle.cd_frames.specs.Message as message
 use Rattle.cd_frames.specs.Message.{Message}
@@ -52,14 +51,20 @@ abbrev pub node_a : ℕ → ℕ → Option (List ℕ) → Node
 node_a block interval file = record {
   config = worked_config block interval;
   journal = entry.Submitted 1 500 None worked_filed (codes "P1") ∷ entry.Home (codes "ALPHA") 1 ∷ [];
-  shelf = settled_shelf (worked_files file); sids = []; phase = λ sid. Gone; holder = λ key. None;
+  shelf = settled_shelf (worked_files file);
+  sids = [];
+  phase = λ sid. Gone;
+  holder = λ key. None;
 }
 
 abbrev pub node_b : ℕ → ℕ → Node
 node_b block interval = record {
   config = worked_config block interval;
   journal = entry.Home (codes "BETA") 2 ∷ [];
-  shelf = settled_shelf (λ name. None); sids = []; phase = λ sid. Gone; holder = λ key. None;
+  shelf = settled_shelf (λ name. None);
+  sids = [];
+  phase = λ sid. Gone;
+  holder = λ key. None;
 }
 
 -- both nodes, and the frames on the way in their one session

@@ -1,8 +1,7 @@
 -- A walk goes on by one step where the step that comes next gets its code.
-use Rattle.std.proofs.Common.{◌≡◌, ℕ, ◌+◌, ◌<◌, ◌≤◌, Bool, true, false, cond, ◌&&◌, eqb, ltb, List, [], ◌∷◌, ◌++◌, length, Option, Some, None, ◌⊎◌, inl, inr, refl, sym, ◌∙◌, ap, subst, arith}
-use Rattle.std.proofs.lemmas.Bool.{cases_Bool, and_parts, eqb-true, eqb-false, ltb-true, cond-true, cond-false, eq-eqb, ne_eqb, false≢true}
-use Rattle.cd_types.specs.declared.choices.Relation.{Relation}
-use Rattle.cd_ast.specs.Walk.{is_action, action_of, code_at, relates_to, code_of_action, holds, behind, behind_else, else_of, eif_of, go, Walker, GoesOn, Stopped, past_action, arrives, walks, with_code, notes, path_from, stop_of, pending_from, path, pending}
+use Rattle.std.proofs.Common.{◌≡◌, ℕ, ◌+◌, ◌<◌, ◌≤◌, true, false, cond, ◌&&◌, eqb, List, [], ◌∷◌, ◌++◌, length, Option, Some, None, inl, inr, refl, sym, ◌∙◌, ap, subst, arith}
+use Rattle.std.proofs.lemmas.Bool.{cases_Bool, and_parts, ltb-true, cond-true, cond-false, eq-eqb, ne_eqb}
+use Rattle.cd_ast.specs.Walk.{is_action, action_of, code_at, relates_to, code_of_action, behind_else, else_of, eif_of, go, Walker, GoesOn, Stopped, past_action, arrives, walks, with_code, notes, path_from, pending_from}
 use Rattle.cd_ast.specs.declared.process.Stmt.{Stmt}
 use Rattle.cd_ast.specs.declared.process.What.{What}
 use Rattle.cd_ast.specs.declared.process.What.TheVariants as what

@@ -1,6 +1,5 @@
 -- A Process with conditions and jumps.
-use Rattle.std.specs.Prelude.{ℕ, List, [], ◌∷◌, codes, Option, Some, None}
-use Rattle.cd_types.specs.declared.choices.Relation.{Relation}
+use Rattle.std.specs.Prelude.{ℕ, List, [], ◌∷◌, codes, Some, None}
 use Rattle.cd_types.specs.declared.choices.Relation.TheVariants as relation
 use Rattle.cd_types.specs.declared.choices.Side.TheVariants as side
 use Rattle.cd_types.specs.declared.choices.TaskKind.TheVariants as task_kind

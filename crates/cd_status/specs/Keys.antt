@@ -1,5 +1,5 @@
 -- Keys of steps, compared, and the keys that entries are of.
-use Rattle.std.specs.Prelude.{ℕ, Bool, false, ◌&&◌, ◌==◌}
+use Rattle.std.specs.Prelude.{Bool, false, ◌&&◌, ◌==◌}
 use Rattle.std.specs.Str.{bytes_eq}
 use Rattle.cd_types.specs.declared.key.Key.{Key}
 use Rattle.cd_entries.specs.declared.entry.Entry.{Entry}

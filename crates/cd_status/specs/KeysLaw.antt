@@ -1,5 +1,5 @@
 -- The laws of comparing keys.
-use Rattle.std.proofs.Common.{◌≡◌, Bool, true, ◌&&◌, refl, ap, eqb}
+use Rattle.std.proofs.Common.{◌≡◌, true, ◌&&◌, refl, eqb}
 use Rattle.std.specs.Str.{bytes_eq}
 use Rattle.std.proofs.lemmas.Bool.{and_parts, and_from, eqb-true, eq-eqb}
 use Rattle.std.proofs.lemmas.Slice.Eq.{bytes_eq-Decides}

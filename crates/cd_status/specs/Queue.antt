@@ -15,7 +15,7 @@ use Rattle.cd_types.specs.declared.rows.Placing.{Placing}
 use Rattle.cd_types.specs.declared.rows.Row.{Row}
 use Rattle.cd_entries.specs.declared.entry.Entry.{Entry}
 use Rattle.cd_entries.specs.declared.entry.Entry.TheVariants as entry
-use Rattle.cd_status.specs.Processes.{Submission, submission, live_numbers}
+use Rattle.cd_status.specs.Processes.{submission, live_numbers}
 
 -- in a queue for a reason, due at no moment of its own, after no failed connection
 abbrev pub stands : Queue → Reason → ℕ → Placing

@@ -1,14 +1,13 @@
 -- The status of a step says what the single questions say.
-use Rattle.std.proofs.Common.{◌≡◌, ℕ, ◌+◌, Bool, true, false, cond, List, [], ◌∷◌, Option, Some, None, refl, sym, ◌∙◌, ap, arith}
+use Rattle.std.proofs.Common.{◌≡◌, ℕ, ◌+◌, true, false, cond, List, [], ◌∷◌, Option, Some, refl, ◌∙◌, ap}
 use Rattle.std.proofs.lemmas.Bool.{cond-true, cond-false}
 use Rattle.cd_types.specs.declared.choices.TaskKind.{TaskKind}
 use Rattle.cd_types.specs.declared.key.Key.{Key}
-use Rattle.cd_types.specs.declared.rows.Outcomes.{Outcomes}
 use Rattle.cd_types.specs.declared.rows.Receiving.{Receiving}
 use Rattle.cd_entries.specs.declared.entry.Entry.{Entry}
 use Rattle.cd_entries.specs.declared.entry.Entry.TheVariants as entry
 use Rattle.cd_status.specs.Keys.{is_of}
-use Rattle.cd_status.specs.Status.{Status, Fresh, Started, Open, Done, dropped_outcome, once_more, opened, marked, after, status, outcome, outcome_at, mark, mark_at, last_receiving, receiving_at, starts, starts_at, done_with, Says}
+use Rattle.cd_status.specs.Status.{Status, Fresh, Started, Open, Done, once_more, opened, marked, after, status, outcome, outcome_at, mark, mark_at, last_receiving, receiving_at, starts, starts_at, done_with, Says}
 
 says_start : (kind : TaskKind) (s : Status) (r : Option Receiving) (m n : ℕ) → Says s r m n → Says (once_more kind s) r m (n + 1)
 says_start kind Fresh r m n h = ap (λ x. x + 1) h
