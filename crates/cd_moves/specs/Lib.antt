@@ -1,6 +1,5 @@
 pub mod Closing
 pub mod Node
-pub mod Pieces
 pub mod Promises
 pub mod Receiving
 pub mod Rows

@@ -18,7 +18,7 @@ use Rattle.cd_status.specs.Status.{outcome}
 use Rattle.cd_legal.specs.Legal.{greatest_file}
 use Rattle.cd_legal.specs.Steps.{next_place, what_at, stmts_of}
 use Rattle.cd_moves.specs.Node.{Talk, Source, Phase, Gone, Greet, Await, Ask, Ready, Send, Node, Deed, Keep, AskSize, AskBytes, Give, Go, recorded, Answers}
-use Rattle.cd_moves.specs.Pieces.{piece_end}
+use Rattle.cd_pieces.specs.Piece.{piece_end}
 use Rattle.cd_moves.specs.Closing.{close}
 
 -- Sending.

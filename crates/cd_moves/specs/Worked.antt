@@ -21,7 +21,7 @@ use Rattle.cd_frames.specs.Message.{Message}
 use Rattle.cd_outside.specs.Shelf.{settled_shelf}
 use Rattle.cd_status.specs.Queue.{Waits}
 use Rattle.cd_moves.specs.Node.{Source, Phase, Gone, Await, Send, Config, Node, Deed, does, sends, Answers}
-use Rattle.cd_moves.specs.Pieces.{piece_end}
+use Rattle.cd_pieces.specs.Piece.{piece_end}
 use Rattle.cd_moves.specs.Rows.{row, row_accept, row_choose, opened}
 
 -- P1 PROCESS SNODE=BETA, S1 COPY FROM (FILE=a PNODE) TO (FILE=b SNODE DISP=RPL), with this interval
