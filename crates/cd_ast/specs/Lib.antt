@@ -4,3 +4,4 @@ pub mod Laws
 pub mod Pieces
 pub mod Subst
 pub mod Tokens
+pub mod Walk

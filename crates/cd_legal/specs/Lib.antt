@@ -1,0 +1,6 @@
+pub mod Legal
+pub mod LegalLaw
+pub mod NumbersLaw
+pub mod PlacingsLaw
+pub mod Promises
+pub mod Steps

@@ -1,0 +1,11 @@
+use Rattle.cd_moves.specs.RowsLaw.{row_stays, row_end_stays, row_trouble_stays}
+use Rattle.cd_moves.proofs.law.law_of_rows.Goals as goal
+
+pub returns-clause-frame : goal.returns-clause-frame
+returns-clause-frame c = row_stays
+
+pub returns-clause-end : goal.returns-clause-end
+returns-clause-end c = row_end_stays
+
+pub returns-clause-trouble : goal.returns-clause-trouble
+returns-clause-trouble c = row_trouble_stays

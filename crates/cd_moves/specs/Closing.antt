@@ -1,0 +1,75 @@
+-- What a session knows of its Process and its step, and what its end records.
+use Rattle.std.specs.Prelude.{ℕ, List, [], ◌∷◌, ◌++◌, Bool, ◌&&◌, Option, Some, None, if◌then◌else◌}
+use Rattle.cd_types.specs.declared.choices.Cause.TheVariants as cause
+use Rattle.cd_types.specs.declared.choices.Side.TheVariants as side
+use Rattle.cd_types.specs.declared.key.Key.{Key}
+use Rattle.cd_types.specs.declared.rows.Placing.{Placing}
+use Rattle.cd_entries.specs.declared.entry.Entry.TheVariants as entry
+use Rattle.cd_frames.specs.Message as message
+use Rattle.cd_frames.specs.Message.{Message}
+use Rattle.cd_status.specs.Processes.{Submission, submission, is_live}
+use Rattle.cd_status.specs.Queue.{Waits, placing, queue_at, runs_in, retried}
+use Rattle.cd_moves.specs.Node.{Phase, Gone, Greet, Await, Ask, Ready, Offer, Send, Take, Node, Deed, Keep, Go}
+
+-- What a session knows.
+
+-- the Process of a session of the PNODE
+abbrev pub own_number : Phase → Option ℕ
+own_number (Greet n) = Some n
+own_number (Await talk key source) = Some key.number
+own_number (Ask talk key) = Some key.number
+own_number (Send side.Pnode talk key source awaited) = Some key.number
+own_number (Take side.Pnode talk key came) = Some key.number
+own_number _ = None
+
+-- the key under way: that of the last step
+abbrev pub key_under_way : Phase → Option Key
+key_under_way (Await talk key source) = Some key
+key_under_way (Ask talk key) = Some key
+key_under_way (Ready talk key) = key
+key_under_way (Offer talk key source) = Some key
+key_under_way (Send role talk key source awaited) = Some key
+key_under_way (Take role talk key came) = Some key
+key_under_way _ = None
+
+-- The end of a session.
+
+-- a session that is lost while its Process runs counts as a failed connection: the Process is placed anew where it is live
+-- and stands in Wait or Execution
+abbrev pub is_running : ℕ → Placing → Bool
+is_running now placed = runs_in (queue_at now placed)
+
+-- the short and the long wait, and how often each is tried, where the netmap doesn't say
+abbrev pub default_waits : Waits
+default_waits = record { short = 30; short_attempts = 6; long = 600; long_attempts = 6 }
+
+abbrev pub waits_or_default : Option Waits → Waits
+waits_or_default None = default_waits
+waits_or_default (Some waits) = waits
+
+abbrev pub waits_for : Node → Option Submission → Waits
+waits_for node None = default_waits
+waits_for node (Some s) = waits_or_default (node.config.partner s.card.snode)
+
+abbrev pub retry : Node → ℕ → ℕ → Option Placing → List Deed
+retry node now n None = []
+retry node now n (Some placed) =
+    if is_live node.journal n && is_running now placed
+    then Keep (entry.Placed n (retried (waits_for node (submission node.journal n)) now placed) now) ∷ []
+    else []
+
+abbrev pub retry_own : Node → ℕ → Option ℕ → List Deed
+retry_own node now None = []
+retry_own node now (Some n) = retry node now n (placing node.journal n)
+
+-- the session is closed, or lost
+abbrev pub close : Node → ℕ → Phase → List Deed
+close node now phase = retry_own node now (own_number phase) ++ Go Gone [] ∷ []
+
+-- a file couldn't be asked or changed: the partner is told, and the step is tried again later
+abbrev pub trouble_for : Option Key → List Message
+trouble_for None = []
+trouble_for (Some key) = message.Abort key cause.Trouble ∷ []
+
+abbrev pub trouble : Node → ℕ → Phase → List Deed
+trouble node now phase = retry_own node now (own_number phase) ++ Go Gone (trouble_for (key_under_way phase)) ∷ []

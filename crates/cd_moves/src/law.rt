@@ -1,0 +1,20 @@
+ghost use Rattle.std.specs.Prelude.{◌≡◌, ℕ, ◌≤◌, true};
+ghost use Rattle.cd_frames.specs.Message.{Message};
+ghost use Rattle.cd_legal.specs.Legal.{is_legal};
+ghost use Rattle.cd_legal.specs.Promises.{HavePriorities};
+ghost use Rattle.cd_status.specs.Processes.{latest};
+ghost use Rattle.cd_moves.specs.Node.{Node, Answers};
+ghost use Rattle.cd_moves.specs.Promises.{StaysLegal};
+ghost use Rattle.cd_moves.specs.Rows.{row, row_end, row_trouble};
+
+/// Whatever frame comes in whatever phase of a session, whatever the files answer, and wherever the node stops in
+/// what it does about it: the journal is legal, and has the earlier one behind its new entries. The same holds where a
+/// session ends, and where a file can't be asked or changed. The clock's moment isn't earlier than the journal's.
+pub fn law_of_rows()
+    ensures frame { (node : Node) → HavePriorities node.config.read → (sid : ℕ) (answers : Answers) (m : Message)
+        → is_legal node.config.read node.journal ≡ true → latest node.journal ≤ answers.now → StaysLegal sid node (row node sid answers m) }
+    ensures end { (node : Node) → HavePriorities node.config.read → (sid now : ℕ)
+        → is_legal node.config.read node.journal ≡ true → latest node.journal ≤ now → StaysLegal sid node (row_end node sid now) }
+    ensures trouble { (node : Node) → HavePriorities node.config.read → (sid now : ℕ)
+        → is_legal node.config.read node.journal ≡ true → latest node.journal ≤ now → StaysLegal sid node (row_trouble node sid now) }
+{}

@@ -1,0 +1,4 @@
+pub mod Conditions
+pub mod StepsLaw
+pub mod WalkLaw
+pub mod Worked
