@@ -1,1 +1,4 @@
 pub mod Run
+pub mod Flow
+pub mod Stretch
+pub mod Reader
