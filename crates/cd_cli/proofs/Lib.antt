@@ -5,3 +5,4 @@ pub mod Serving
 pub mod Exits
 pub mod Fronts
 pub mod Closing
+pub mod Acknowledging

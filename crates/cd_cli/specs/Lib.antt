@@ -2,3 +2,4 @@ pub mod Run
 pub mod Flow
 pub mod Stretch
 pub mod Reader
+pub mod Acknowledged

@@ -14,6 +14,7 @@ use Rattle.cd_turn.specs.Plain.{Command, Init, Submit, Stop, command_of}
 use Rattle.cd_turn.specs.Reply.{reply_text, is_refused}
 use Rattle.cd_turn.specs.Status.{last_line}
 use Rattle.cd_turn.specs.Turn.{Turn, told_by, answer, added, after_turn, after_turns, replies}
+use Rattle.cd_cli.specs.Acknowledged.{tells, KeepsNumber}
 use Rattle.cd_turn.specs.declared.reply.Reply.{Reply}
 use Rattle.cd_turn.specs.declared.status.Status.{Status}
 use Rattle.cd_turn.specs.declared.status.Status.TheVariants.{Done, Usage, Refused, Unfit, SourceFault, DiskFault, SinkFault, InputLimit, JournalFull, NoMemory}
@@ -143,6 +144,8 @@ pub record Opened (disk clock source sink : Type 0) (moment : ℕ) (before now :
   pub stood : disk → StandsFor before.seen entries
   pub legal : IsLegal entries
   pub ran : Ran disk clock source sink moment entries out input rest now out_now status
+  -- each number that a reply told is that of a submission in each journal that a crash may leave from now on
+  pub acknowledged : disk → (n : ℕ) (image : List ℕ) → list_any (tells n) (replies entries ran.turns) ≡ true → IsImage now.doubt image → KeepsNumber n image
 
 -- a run, up to its last line
 abbrev pub Came : (disk clock source sink : Type 0) → ℕ → DiskState → DiskState → List ℕ → List ℕ → List ℕ → List ℕ → Status → Type 0

@@ -2,6 +2,8 @@ use Rattle.std.proofs.Common.{◌≡◌, ◌⊎◌, inl, inr, ℕ, ◌≤◌, ap
 use Rattle.cd_outside.specs.Counts.{Rose}
 use Rattle.cd_journal.specs.Bytes.{list_of}
 use Rattle.cd_turn.specs.Home.{IsUnfit}
+use Rattle.cd_turn.specs.Turn.{after_turns}
+use Rattle.cd_cli.proofs.Acknowledging.{told_kept, keeps_number}
 use Rattle.cd_cli.proofs.Going.{run_moments, ended_weaker, rose_since}
 use Rattle.cd_cli.proofs.run.run.Goals as goal
 
@@ -12,6 +14,8 @@ returns-clause-came g c = inr (record {
   stood = λ told. ap list_of (sym (c.in-Ok.ensures.same told)) ∙ (c.in-Ok.ensures.home told).list;
   legal = c.in-Ok.ensures.legal;
   ran = c.serve.ensures.ran;
+  acknowledged = λ told n image number left.
+      keeps_number n (after_turns c.in-Ok.home.entries c.serve.ensures.ran.turns) image (told_kept n c.in-Ok.home.entries c.serve.ensures.ran.turns number) (c.serve.ensures.ran.keeps told image left);
 })
 
 pub returns-clause-moments : goal.returns-clause-moments
