@@ -6,3 +6,4 @@ pub mod Exits
 pub mod Fronts
 pub mod Closing
 pub mod Acknowledging
+pub mod Completing

@@ -3,3 +3,4 @@ pub mod Flow
 pub mod Stretch
 pub mod Reader
 pub mod Acknowledged
+pub mod Complete

@@ -12,7 +12,8 @@ ghost use Rattle.cd_turn.specs.PlainSeen.{seen_command};
 ghost use Rattle.cd_turn.specs.Status.{last_line};
 ghost use Rattle.cd_turn.specs.Turn.{IsFormed, told_by};
 ghost use Rattle.cd_cli.specs.Flow.{was_refused};
-ghost use Rattle.cd_cli.specs.Run.{EndedBy, GoneOn, RunMayLeave, EndedWell, TookLine, IfBetween, Ran, Came, Served};
+ghost use Rattle.cd_cli.specs.Complete.{IsFit, Completes};
+ghost use Rattle.cd_cli.specs.Run.{most_input, EndedBy, GoneOn, RunMayLeave, EndedWell, TookLine, IfBetween, Ran, Came, Served};
 ghost use Rattle.cd_cli.specs.Stretch.{standing, HaveTurned, Halted, Went, Finishes};
 
 use crate::flow::{Flow, Last, flow_of};
@@ -291,6 +292,10 @@ pub fn run_node<P: Disk, C: Clock, S: Source, O: Sink>(
     // What it did, and how far it came.
     ensures served { length words.now ≡ 0 → Served P.told C.told S.told O.told (Rose (O.faults out.old) (O.faults out.new)) (C.moment clock.old)
         (P.state journal.old) (P.state journal.new) (S.remaining input.old) (S.remaining input.new) (O.taken out.old) (O.taken out.new) result }
+    // Where no device fails, it does all of an input that isn't longer than what is read at most.
+    ensures complete { length words.now ≡ 0 → P.told → C.told → S.told → O.told → IsFit (P.state journal.old).seen → length (S.remaining input.old) ≤ most_input
+        → (Rose (P.faults journal.old) (P.faults journal.new) → ⊥) → (Rose (S.faults input.old) (S.faults input.new) → ⊥) → (Rose (O.faults out.old) (O.faults out.new) → ⊥)
+        → Completes (C.moment clock.old) (P.state journal.old).seen (S.remaining input.old) (O.taken out.old) (O.taken out.new) result }
     // A fault of a device has its cause in this call, and so has a journal that isn't one.
     ensures reason { length words.now ≡ 0 → EndedBy (Rose (P.faults journal.old) (P.faults journal.new)) (λ at. P.told → IsUnfit (P.state journal.old).seen at) (Rose (S.faults input.old) (S.faults input.new)) (Rose (O.faults out.old) (O.faults out.new)) result }
     // What a crash may leave, at each moment of the call.
