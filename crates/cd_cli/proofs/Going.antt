@@ -9,7 +9,8 @@ use Rattle.cd_outside.proofs.Runs.{moments_then, moments_weaker, moments_none}
 use Rattle.cd_entries.specs.declared.entry.Entry.{Entry}
 use Rattle.cd_turn.specs.Home.{HomeState, IsHome, KeepsEntries}
 use Rattle.cd_turn.specs.Legal.{IsLegal, Extends}
-use Rattle.cd_cli.specs.Run.{EndedBy, GoneOn, RunMayLeave}
+use Rattle.cd_cli.specs.Run.{EndedBy, GoneOn, RunMayLeave, TookLine}
+use Rattle.cd_outside.specs.Streams.{TookFront}
 use Rattle.cd_turn.specs.Ends.{MayLeave}
 use Rattle.cd_turn.specs.declared.status.Status.{Status}
 use Rattle.cd_turn.specs.declared.status.Status.TheVariants.{Done, Usage, Refused, Unfit, DiskFault, JournalFull, SourceFault, SinkFault, InputLimit, NoMemory}
@@ -71,7 +72,7 @@ ended_weaker disk disk_more unfit unfit_more source source_more sink sink_more d
 ended_weaker disk disk_more unfit unfit_more source source_more sink sink_more d u s o Refused why = tt
 ended_weaker disk disk_more unfit unfit_more source source_more sink sink_more d u s o (Unfit at) why = u at why
 ended_weaker disk disk_more unfit unfit_more source source_more sink sink_more d u s o DiskFault why = d why
-ended_weaker disk disk_more unfit unfit_more source source_more sink sink_more d u s o (JournalFull len) why = why
+ended_weaker disk disk_more unfit unfit_more source source_more sink sink_more d u s o (JournalFull len) why = tt
 ended_weaker disk disk_more unfit unfit_more source source_more sink sink_more d u s o SourceFault why = s why
 ended_weaker disk disk_more unfit unfit_more source source_more sink sink_more d u s o SinkFault why = o why
 ended_weaker disk disk_more unfit unfit_more source source_more sink sink_more d u s o InputLimit why = tt
@@ -93,3 +94,10 @@ opened_moments old now from opened = moments_weaker (LeftAt old) (LeftAt now) fr
 -- nothing was opened
 pub untouched_moments : (old : DiskState) (from : ℕ) → last_of old.calls ≤ from → Moments (LeftAt old) (LeftAt old) from (RunMayLeave old)
 untouched_moments old from order = moments_none old old from (RunMayLeave old) refl order (λ image left. inl left)
+
+pub rose_before : (first middle last : ℕ) → middle ≤ last → Rose first middle → Rose first last
+rose_before first middle last order rose = omega arith
+
+-- a count that rose as the last line was written rose in the call
+pub took_since : (first middle last : ℕ) (before line now : List ℕ) → first ≤ middle → TookLine (Rose middle last) before line now → TookLine (Rose first last) before line now
+took_since first middle last before line now order took = ⊎_elim (λ (whole : now ≡ before ++ line). inl whole) (λ (front : Rose middle last × TookFront before line now). inr (rose_since first middle last order front.0, front.1)) took

@@ -1,20 +1,22 @@
 -- Turns, one after the other.
-use Rattle.std.proofs.Common.{length, IfErr, ◌≡◌, ℕ, ◌-◌, List, [], ◌∷◌, ◌++◌, Option, option_to_list, Result, Ok, Err, OnOk, IfOk, refl, sym, ap, subst, ◌∙◌, append_assoc}
-use Rattle.std.proofs.lemmas.List.{append-nil}
-use Rattle.std.proofs.Math.Seq.{take-nil}
-use Rattle.cd_outside.specs.Streams.{TookFront}
+use Rattle.std.proofs.Common.{◌≡◌, ℕ, ◌+◌, ◌<◌, ◌≤◌, ◌||◌, cond, ltb, Bool, true, false, List, [], ◌∷◌, ◌++◌, length, map, Option, Some, None, option_to_list, refl, sym, ap, subst, ◌∙◌, append_assoc, arith}
+use Rattle.std.specs.Prelude.{All}
+use Rattle.std.specs.List.{list_any}
 use Rattle.std.proofs.lemmas.Grind.{flat_map-append}
+use Rattle.std.proofs.lemmas.List.{append-nil, map-append}
+use Rattle.std.proofs.lemmas.List.Elements.{All-append, All-cons, All-nil, All-weaker}
 use Rattle.cd_entries.specs.declared.entry.Entry.{Entry}
-use Rattle.cd_turn.specs.declared.reply.Reply.{Reply}
-use Rattle.cd_turn.specs.declared.status.Status.{Status}
-use Rattle.cd_turn.specs.declared.status.Status.TheVariants.{Done, Usage, Refused, Unfit, DiskFault, JournalFull, SourceFault, SinkFault, InputLimit, NoMemory}
-use Rattle.cd_turn.specs.Status.{last_line}
-use Rattle.cd_input.specs.Input.{Event}
-use Rattle.cd_turn.specs.Plain.{Command}
-use Rattle.cd_turn.specs.Reply.{reply_text}
+use Rattle.cd_input.specs.Input.{Event, Whole, TooLong, Unfinished}
+use Rattle.cd_turn.specs.Ends.{FitsBehind}
+use Rattle.cd_turn.specs.Plain.{Command, Init, Submit, Stop, command_of}
+use Rattle.cd_turn.specs.Reply.{reply_text, is_refused}
 use Rattle.cd_turn.specs.Turn.{Turn, told_by, answer, added, after_turn, after_turns, replies}
-use Rattle.cd_turn.specs.Ends.{HasReason}
-use Rattle.cd_cli.specs.Run.{texts, HaveTurned, EndedWell, RanThrough}
+use Rattle.cd_turn.specs.declared.reply.Reply.{Reply}
+use Rattle.cd_turn.specs.declared.reply.Reply.TheVariants as reply
+use Rattle.cd_turn.specs.declared.reply.Refusal.TheVariants.{NotHome, Full}
+use Rattle.cd_cli.specs.Flow.{ends_by}
+use Rattle.cd_cli.specs.Run.{is_stop, ends_run, texts, refused_after, EachFits}
+use Rattle.cd_cli.specs.Stretch.{Standing, standing, HaveTurned}
 
 turns_then : (entries : List Entry) (one two : List Turn) → after_turns entries (one ++ two) ≡ after_turns (after_turns entries one) two
 turns_then entries [] two = refl
@@ -27,68 +29,96 @@ replies_then entries (turn ∷ one) two = ap (λ (r : List Reply). answer entrie
 texts_then : (entries : List Entry) (one two : List Turn) → texts (replies entries (one ++ two)) ≡ texts (replies entries one) ++ texts (replies (after_turns entries one) two)
 texts_then entries one two = ap texts (replies_then entries one two) ∙ flat_map-append reply_text (replies entries one) (replies (after_turns entries one) two)
 
--- no turn was made
-pub turned_none : (entries : List Entry) (out : List ℕ) → HaveTurned entries out entries out
-turned_none entries out = record { turns = []; entries_are = refl; out_is = sym (append-nil out) }
+refused_push : (was : Bool) (one two : List Reply) → refused_after was (one ++ two) ≡ refused_after (refused_after was one) two
+refused_push was [] two = refl
+refused_push was (reply ∷ one) two = refused_push (is_refused reply) one two
 
--- one turn was made
-pub turned_one : (entries later : List Entry) (out now : List ℕ) (turn : Turn) → later ≡ after_turn entries turn → now ≡ out ++ reply_text (answer entries (told_by turn.event)) → HaveTurned entries out later now
-turned_one entries later out now turn is told = record {
-  turns = turn ∷ [];
-  entries_are = is;
-  out_is = told ∙ ap (λ (text : List ℕ). out ++ text) (sym (append-nil (reply_text (answer entries (told_by turn.event)))));
+refused_then : (was : Bool) (entries : List Entry) (one two : List Turn) → refused_after was (replies entries (one ++ two)) ≡ refused_after (refused_after was (replies entries one)) (replies (after_turns entries one) two)
+refused_then was entries one two = ap (refused_after was) (replies_then entries one two) ∙ refused_push was (replies entries one) (replies (after_turns entries one) two)
+
+fits_then : (entries : List Entry) (one two : List Turn) → EachFits entries one → EachFits (after_turns entries one) two → EachFits entries (one ++ two)
+fits_then entries [] two a b = b
+fits_then entries (turn ∷ one) two a b = (a.0, fits_then (after_turn entries turn) one two a.1 b)
+
+-- no turn was made
+pub turned_none : (disk clock sink : Type 0) (moment : ℕ) (at : Standing) → HaveTurned disk clock sink moment at [] at
+turned_none disk clock sink moment at = record {
+  turns = [];
+  events_are = refl;
+  moments_are = λ told. All-nil (λ (turn : Turn). turn.now ≡ moment);
+  entries_are = refl;
+  refused_is = refl;
+  out_is = λ told. sym (append-nil at.out);
+  fits = λ told. tt;
 }
 
 -- turns, and then more
-pub turned_then : (a b c : List Entry) (x y z : List ℕ) → HaveTurned a x b y → HaveTurned b y c z → HaveTurned a x c z
-turned_then a b c x y z one two = record {
+pub turned_then : (disk clock sink : Type 0) (moment : ℕ) (a b c : Standing) (xs ys : List Event) → HaveTurned disk clock sink moment a xs b → HaveTurned disk clock sink moment b ys c → HaveTurned disk clock sink moment a (xs ++ ys) c
+turned_then disk clock sink moment a b c xs ys one two = record {
   turns = one.turns ++ two.turns;
-  entries_are = two.entries_are ∙ ap (λ (e : List Entry). after_turns e two.turns) one.entries_are ∙ sym (turns_then a one.turns two.turns);
-  out_is = two.out_is
-      ∙ ap (λ (o : List ℕ). o ++ texts (replies b two.turns)) one.out_is
-      ∙ append_assoc x (texts (replies a one.turns)) (texts (replies b two.turns))
-      ∙ ap (λ (e : List Entry). x ++ (texts (replies a one.turns) ++ texts (replies e two.turns))) one.entries_are
-      ∙ ap (λ (text : List ℕ). x ++ text) (sym (texts_then a one.turns two.turns));
+  events_are = map-append (λ (turn : Turn). turn.event) one.turns two.turns
+      ∙ ap (λ (l : List Event). l ++ map (λ (turn : Turn). turn.event) two.turns) one.events_are ∙ ap (λ (l : List Event). xs ++ l) two.events_are;
+  moments_are = λ told. All-append (λ (turn : Turn). turn.now ≡ moment) one.turns two.turns (one.moments_are told) (two.moments_are told);
+  entries_are = two.entries_are ∙ ap (λ (e : List Entry). after_turns e two.turns) one.entries_are ∙ sym (turns_then a.entries one.turns two.turns);
+  refused_is = two.refused_is
+      ∙ ap (λ (was : Bool). refused_after was (replies b.entries two.turns)) one.refused_is
+      ∙ ap (λ (e : List Entry). refused_after (refused_after a.refused (replies a.entries one.turns)) (replies e two.turns)) one.entries_are
+      ∙ sym (refused_then a.refused a.entries one.turns two.turns);
+  out_is = λ told. two.out_is told
+      ∙ ap (λ (o : List ℕ). o ++ texts (replies b.entries two.turns)) (one.out_is told)
+      ∙ append_assoc a.out (texts (replies a.entries one.turns)) (texts (replies b.entries two.turns))
+      ∙ ap (λ (e : List Entry). a.out ++ (texts (replies a.entries one.turns) ++ texts (replies e two.turns))) one.entries_are
+      ∙ ap (λ (text : List ℕ). a.out ++ text) (sym (texts_then a.entries one.turns two.turns));
+  fits = λ told. fits_then a.entries one.turns two.turns (one.fits told) (subst (λ (e : List Entry). EachFits e two.turns) one.entries_are (two.fits told));
 }
 
--- the turn of a command that came to its end
-pub turned_by : (entries later : List Entry) (out now : List ℕ) (moment : ℕ) (command : Option Command) (result : Result Reply Status) → (event : Event) × (told_by event ≡ command)
-    → OnOk result (later ≡ entries ++ option_to_list (added entries moment command)) → IfOk result (λ reply. reply ≡ answer entries command) → IfOk result (λ reply. now ≡ out ++ reply_text reply) → OnOk result (HaveTurned entries out later now)
-turned_by entries later out now moment command (Ok reply) event is answered told =
-    turned_one entries later out now (record { now = moment; event = event.0 })
-    (is ∙ ap (λ (c : Option Command). entries ++ option_to_list (added entries moment c)) (sym event.1))
-    (told ∙ ap (λ (r : Reply). out ++ reply_text r) answered ∙ ap (λ (c : Option Command). out ++ reply_text (answer entries c)) (sym event.1))
-turned_by entries later out now moment command (Err status) event is answered told = tt
+-- the turn of what came to its end
+pub turned_one : (disk clock sink : Type 0) (moment : ℕ) (entries later : List Entry) (out out_now : List ℕ) (was is : Bool) (now : ℕ) (event : Event) (command : Option Command) (given : Reply)
+    → command ≡ told_by event → later ≡ entries ++ option_to_list (added entries now command) → given ≡ answer entries command → (sink → out_now ≡ out ++ reply_text given)
+    → (disk → FitsBehind entries (added entries now command)) → (clock → now ≡ moment) → is ≡ is_refused given → HaveTurned disk clock sink moment (standing entries out was) (event ∷ []) (standing later out_now is)
+turned_one disk clock sink moment entries later out out_now was is now event command given e grown answered told fits at refused =
+    let turn : Turn = record { now = now; event = event } in
+    let answer_is : given ≡ answer entries (told_by event) = answered ∙ ap (answer entries) e in
+    record {
+      turns = turn ∷ [];
+      events_are = refl;
+      moments_are = λ t. All-cons (λ (turn : Turn). turn.now ≡ moment) turn [] (at t) (All-nil (λ (turn : Turn). turn.now ≡ moment));
+      entries_are = grown ∙ ap (λ (c : Option Command). entries ++ option_to_list (added entries now c)) e;
+      refused_is = refused ∙ ap is_refused answer_is;
+      out_is = λ t. told t ∙ ap (λ (r : Reply). out ++ reply_text r) answer_is ∙ ap (λ (text : List ℕ). out ++ text) (sym (append-nil (reply_text (answer entries (told_by event)))));
+      fits = λ t. (subst (λ (c : Option Command). FitsBehind entries (added entries now c)) e (fits t), tt);
+    }
 
--- a turn that ends the run does not end it well
-reason_failed : (disk untold sink : Type 0) (entry : Option Entry) (status : Status) → HasReason disk untold sink entry status → EndedWell status → ⊥
-reason_failed disk untold sink entry Done why well = why
-reason_failed disk untold sink entry Usage why well = well
-reason_failed disk untold sink entry Refused why well = why
-reason_failed disk untold sink entry (Unfit at) why well = well
-reason_failed disk untold sink entry DiskFault why well = well
-reason_failed disk untold sink entry (JournalFull len) why well = well
-reason_failed disk untold sink entry SourceFault why well = well
-reason_failed disk untold sink entry SinkFault why well = well
-reason_failed disk untold sink entry InputLimit why well = well
-reason_failed disk untold sink entry NoMemory why well = well
+-- the clock gave the moment that it gave at first
+pub turned_since : (disk clock sink : Type 0) (moment first : ℕ) (a b : Standing) (xs : List Event) → (clock → moment ≡ first) → HaveTurned disk clock sink moment a xs b → HaveTurned disk clock sink first a xs b
+turned_since disk clock sink moment first a b xs same one = record {
+  turns = one.turns;
+  events_are = one.events_are;
+  moments_are = λ told. All-weaker (λ (turn : Turn). turn.now ≡ moment) (λ (turn : Turn). turn.now ≡ first) (λ turn e. e ∙ same told) one.turns (one.moments_are told);
+  entries_are = one.entries_are;
+  refused_is = one.refused_is;
+  out_is = one.out_is;
+  fits = one.fits;
+}
 
-pub turn_failed : (disk untold sink : Type 0) (entry : Option Entry) (result : Result Reply Status) → IfErr result (HasReason disk untold sink entry) → IfErr result (λ status. EndedWell status → ⊥)
-turn_failed disk untold sink entry (Ok reply) why = tt
-turn_failed disk untold sink entry (Err status) why = reason_failed disk untold sink entry status why
+-- `stop` alone is answered so that the run ends
+stop_ends : (text : List ℕ) (entries : List Entry) (command : Option Command) → ends_by (Whole text) (answer entries command) ≡ is_stop command
+stop_ends text entries None = refl
+stop_ends text entries (Some Stop) = refl
+stop_ends text [] (Some (Init name home)) = refl
+stop_ends text (e ∷ entries) (Some (Init name home)) = refl
+stop_ends text [] (Some (Submit p)) = refl
+stop_ends text (e ∷ entries) (Some (Submit p)) = goes_on (ltb _ 4096) _
+  where
+    goes_on : (t : Bool) (n : ℕ) → ends_by (Whole text) (cond t (reply.Submitted n) (reply.Refused (Full 4096))) ≡ false
+    goes_on true n = refl
+    goes_on false n = refl
 
-front_empty : (before now : List ℕ) → TookFront before [] now → now ≡ before
-front_empty before now took = took ∙ ap (λ (l : List ℕ). before ++ l) (take-nil (length now - length before)) ∙ append-nil before
+pub answer_ends : (event : Event) (entries : List Entry) → ends_by event (answer entries (told_by event)) ≡ ends_run event
+answer_ends (Whole text) entries = stop_ends text entries (command_of text)
+answer_ends TooLong entries = refl
+answer_ends Unfinished entries = refl
 
--- a run that came to its end has no line behind those of its turns
-pub ran_told : (status : Status) (seen out seen_now middle now : List ℕ) → EndedWell status → TookFront middle (last_line status) now → RanThrough seen out seen_now middle → RanThrough seen out seen_now now
-ran_told Done seen out seen_now middle now well took ran = subst (λ (o : List ℕ). RanThrough seen out seen_now o) (sym (front_empty middle now took)) ran
-ran_told Usage seen out seen_now middle now well took ran = absurd well
-ran_told Refused seen out seen_now middle now well took ran = subst (λ (o : List ℕ). RanThrough seen out seen_now o) (sym (front_empty middle now took)) ran
-ran_told (Unfit at) seen out seen_now middle now well took ran = absurd well
-ran_told DiskFault seen out seen_now middle now well took ran = absurd well
-ran_told (JournalFull len) seen out seen_now middle now well took ran = absurd well
-ran_told SourceFault seen out seen_now middle now well took ran = absurd well
-ran_told SinkFault seen out seen_now middle now well took ran = absurd well
-ran_told InputLimit seen out seen_now middle now well took ran = absurd well
-ran_told NoMemory seen out seen_now middle now well took ran = absurd well
+pub or_false : (b : Bool) → (b || false) ≡ b
+or_false true = refl
+or_false false = refl

@@ -1,1 +1,6 @@
 pub mod Run
+pub mod Flow
+pub mod Stretch
+pub mod Reader
+pub mod Acknowledged
+pub mod Complete

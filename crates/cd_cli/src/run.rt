@@ -1,90 +1,83 @@
 //! A run of the node: the input is read on, and each command in it is a turn.
-ghost use Rattle.std.specs.Prelude.{◌≡◌, ◌≤◌, ◌<◌, [], true, false, length, option_map, OnOk, OnErr, IfOk, IfErr};
+ghost use Rattle.std.specs.Prelude.{◌≡◌, ◌⊎◌, ◌≤◌, ◌<◌, ◌++◌, ◌∷◌, [], Bool, true, false, length, option_map, OnOk, OnErr, IfOk, IfErr};
 ghost use Rattle.cd_outside.specs.Counts.{Rose};
 ghost use Rattle.cd_outside.specs.Disk.{last_of, LeftAt};
 ghost use Rattle.cd_outside.specs.Moments.{Moments};
-ghost use Rattle.cd_outside.specs.Streams.{TookFront};
+ghost use Rattle.cd_input.specs.Input.{scan_after, end_events, limit_events, begin};
+ghost use Rattle.cd_input.specs.Scanner.{event_of, events_of};
+ghost use Rattle.cd_turn.specs.Ends.{MayLeave};
 ghost use Rattle.cd_turn.specs.Home.{IsHome, IsUnfit};
 ghost use Rattle.cd_turn.specs.Legal.{IsLegal};
-ghost use Rattle.cd_turn.specs.Ends.{MayLeave};
-ghost use Rattle.cd_cli.specs.Run.{EndedBy, GoneOn, RunMayLeave, HaveTurned, EndedWell, RanThrough};
+ghost use Rattle.cd_turn.specs.PlainSeen.{seen_command};
 ghost use Rattle.cd_turn.specs.Status.{last_line};
+ghost use Rattle.cd_turn.specs.Turn.{IsFormed, told_by};
+ghost use Rattle.cd_cli.specs.Flow.{was_refused};
+ghost use Rattle.cd_cli.specs.Complete.{IsFit, Completes};
+ghost use Rattle.cd_cli.specs.Run.{most_input, EndedBy, GoneOn, RunMayLeave, EndedWell, TookLine, IfBetween, Ran, Came, Served};
+ghost use Rattle.cd_cli.specs.Stretch.{standing, HaveTurned, Halted, Went, Finishes};
 
-
+use crate::flow::{Flow, Last, flow_of};
+use crate::reader::Reader;
+use crate::telling::tell_last;
 use cd_input::{Found, Scanner};
-
-
-
-use cd_turn::{Home, Reply, Status, command_of, make_turn};
 use cd_journal::JournalFault;
 use cd_outside::{Beat, Clock, Disk, Sink, Source};
+use cd_turn::{Command, Home, Status, command_of, make_turn};
 use std::alloc::Global;
 
 /// The most bytes of the input that are read.
 const MAX_INPUT: usize = 16_777_216;
 
-/// How many bytes are asked for at once.
-const PIECE: usize = 4096;
-
-/// Whether the last command was refused.
-#[derive(Clone, Copy, Debug, PartialEq, Eq)]
-enum Last {
-    Done,
-    Refused,
-}
-
-/// Whether the run goes on; with how the last command went.
-#[derive(Clone, Copy, Debug, PartialEq, Eq)]
-enum Flow {
-    Goes(Last),
-    Ends(Last),
-}
-
-// What a reply makes of the run.
-fn flow_of(reply: Reply) -> Flow {
-    match reply {
-        Reply::Stopped => Flow::Ends(Last::Done),
-        Reply::Refused(_) => Flow::Goes(Last::Refused),
-        Reply::Home(..) | Reply::Submitted(_) => Flow::Goes(Last::Done),
+// The command that came to its end; one that is too long or cut off is none.
+#[tactic(auto, using(cd_turn::proofs::Commands::command_formed))]
+fn command_in(found: &Found) -> Option<Command<'_>>
+    ensures told { option_map seen_command result ≡ told_by (event_of found.now) }
+    ensures formed { IsFormed (option_map seen_command result) }
+{
+    match found {
+        Found::Command(text) => command_of(text),
+        Found::TooLong | Found::Unfinished => None,
     }
 }
 
-// Does the command that came to its end.
-#[tactic(auto, using(cd_turn::proofs::Commands::command_formed))]
+// Does what came to its end.
 fn found_turn<P: Disk, C: Clock, O: Sink>(
     alloc: Global,
     home: &mut Home,
-    found: Option<&[u8]>,
+    found: &Found,
     journal: &mut P,
     clock: &mut C,
     out: &mut O,
     beat: &mut Beat,
-) -> Result<Reply, Status>
+) -> Result<Flow, Status>
     requires legal { IsLegal home.old.entries }
     requires sound { home.old.journal.sound ≡ true }
     requires home { P.told → IsHome home.old (P.state journal.old) }
     requires order { P.told → last_of (P.state journal.old).calls ≤ beat.old }
+    ensures went { IfOk result (λ flow. (was : Bool) → Went P.told C.told O.told (C.moment clock.old) (standing home.old.entries (O.taken out.old) was)
+        (event_of found.now ∷ []) home.new.entries (O.taken out.new) flow) }
+    ensures halted { IfErr result (λ status. (was : Bool) → Halted P.told C.told O.told (C.moment clock.old) (standing home.old.entries (O.taken out.old) was)
+        (event_of found.now ∷ []) (P.state journal.new) (O.taken out.new) status) }
     ensures legal { OnOk result (IsLegal home.new.entries) }
     ensures sound { OnOk result (home.new.journal.sound ≡ true) }
     ensures goes { P.told → OnOk result (GoneOn home.old.entries (P.state journal.old) beat.old home.new (P.state journal.new) beat.new) }
-    ensures turned { O.told → OnOk result (HaveTurned home.old.entries (O.taken out.old) home.new.entries (O.taken out.new)) }
-    ensures failed { IfErr result (λ status. EndedWell status → ⊥) }
     ensures moments { P.told → OnErr result (Moments (LeftAt (P.state journal.old)) (LeftAt (P.state journal.new)) beat.old (MayLeave ((P.state journal.old).seen ≡ []) home.old.entries)) }
     ensures reason { IfErr result (EndedBy (Rose (P.faults journal.old) (P.faults journal.new)) (λ _. P.told → ⊥) ⊥ (Rose (O.faults out.old) (O.faults out.new))) }
+    ensures clock { C.told → C.moment clock.new ≡ C.moment clock.old }
     ensures order { P.told → last_of (P.state journal.new).calls ≤ beat.new }
     ensures beat { beat.old ≤ beat.new }
     ensures later { P.faults journal.old ≤ P.faults journal.new }
     ensures later_out { O.faults out.old ≤ O.faults out.new }
 {
-    let command = match found {
-        Some(text) => command_of(text),
-        None => None,
-    };
+    let command = command_in(found);
     let now = clock.now();
-    make_turn(alloc, home, &command, now, journal, out, beat)
+    match make_turn(alloc, home, &command, now, journal, out, beat) {
+        Ok(reply) => Ok(flow_of(found, reply)),
+        Err(status) => Err(status),
+    }
 }
 
-// Takes one byte more, and does the command that came to its end with it. One that is too long ends the run.
+// Takes one byte more, and does what came to its end with it.
 #[tactic(auto, using(cd_turn::proofs::Homes::rests_moments))]
 fn byte_turn<P: Disk, C: Clock, O: Sink>(
     alloc: Global,
@@ -101,13 +94,17 @@ fn byte_turn<P: Disk, C: Clock, O: Sink>(
     requires sound { home.old.journal.sound ≡ true }
     requires home { P.told → IsHome home.old (P.state journal.old) }
     requires order { P.told → last_of (P.state journal.old).calls ≤ beat.old }
+    ensures went { IfOk result (λ flow. Went P.told C.told O.told (C.moment clock.old) (standing home.old.entries (O.taken out.old) (was_refused last))
+        (scan_after scanner.old byte).1 home.new.entries (O.taken out.new) flow) }
+    ensures halted { IfErr result (λ status. Halted P.told C.told O.told (C.moment clock.old) (standing home.old.entries (O.taken out.old) (was_refused last))
+        (scan_after scanner.old byte).1 (P.state journal.new) (O.taken out.new) status) }
+    ensures scanner { OnOk result (scanner.new ≡ (scan_after scanner.old byte).0) }
     ensures legal { OnOk result (IsLegal home.new.entries) }
     ensures sound { OnOk result (home.new.journal.sound ≡ true) }
     ensures goes { P.told → OnOk result (GoneOn home.old.entries (P.state journal.old) beat.old home.new (P.state journal.new) beat.new) }
-    ensures turned { O.told → OnOk result (HaveTurned home.old.entries (O.taken out.old) home.new.entries (O.taken out.new)) }
-    ensures failed { IfErr result (λ status. EndedWell status → ⊥) }
     ensures moments { P.told → OnErr result (Moments (LeftAt (P.state journal.old)) (LeftAt (P.state journal.new)) beat.old (MayLeave ((P.state journal.old).seen ≡ []) home.old.entries)) }
     ensures reason { IfErr result (EndedBy (Rose (P.faults journal.old) (P.faults journal.new)) (λ _. P.told → ⊥) ⊥ (Rose (O.faults out.old) (O.faults out.new))) }
+    ensures clock { C.told → C.moment clock.new ≡ C.moment clock.old }
     ensures order { P.told → last_of (P.state journal.new).calls ≤ beat.new }
     ensures beat { beat.old ≤ beat.new }
     ensures later { P.faults journal.old ≤ P.faults journal.new }
@@ -115,199 +112,49 @@ fn byte_turn<P: Disk, C: Clock, O: Sink>(
 {
     match scanner.take(byte) {
         Ok(None) => Ok(Flow::Goes(last)),
-        Ok(Some(Found::Command(text))) => {
-            match found_turn(alloc, home, Some(&text), journal, clock, out, beat) {
-                Ok(reply) => Ok(flow_of(reply)),
-                Err(status) => Err(status),
-            }
-        }
-        Ok(Some(Found::TooLong)) => {
-            match found_turn(alloc, home, None, journal, clock, out, beat) {
-                Ok(_) => Ok(Flow::Ends(Last::Refused)),
-                Err(status) => Err(status),
-            }
-        }
+        Ok(Some(found)) => match found_turn(alloc, home, &found, journal, clock, out, beat) {
+            Ok(flow) => Ok(flow),
+            Err(status) => Err(status),
+        },
         Err(_) => Err(Status::NoMemory),
     }
 }
 
-// Does the commands that come to their end in these bytes, up to one that ends the run.
-fn feed<P: Disk, C: Clock, O: Sink>(
-    alloc: Global,
-    home: &mut Home,
-    scanner: &mut Scanner,
-    bytes: &[u8],
-    before: Last,
-    journal: &mut P,
-    clock: &mut C,
-    out: &mut O,
-    beat: &mut Beat,
-) -> Result<Flow, Status>
-    requires legal { IsLegal home.old.entries }
-    requires sound { home.old.journal.sound ≡ true }
-    requires home { P.told → IsHome home.old (P.state journal.old) }
-    requires order { P.told → last_of (P.state journal.old).calls ≤ beat.old }
-    ensures legal { OnOk result (IsLegal home.new.entries) }
-    ensures sound { OnOk result (home.new.journal.sound ≡ true) }
-    ensures goes { P.told → OnOk result (GoneOn home.old.entries (P.state journal.old) beat.old home.new (P.state journal.new) beat.new) }
-    ensures turned { O.told → OnOk result (HaveTurned home.old.entries (O.taken out.old) home.new.entries (O.taken out.new)) }
-    ensures failed { IfErr result (λ status. EndedWell status → ⊥) }
-    ensures moments { P.told → OnErr result (Moments (LeftAt (P.state journal.old)) (LeftAt (P.state journal.new)) beat.old (MayLeave ((P.state journal.old).seen ≡ []) home.old.entries)) }
-    ensures reason { IfErr result (EndedBy (Rose (P.faults journal.old) (P.faults journal.new)) (λ _. P.told → ⊥) ⊥ (Rose (O.faults out.old) (O.faults out.new))) }
-    ensures order { P.told → last_of (P.state journal.new).calls ≤ beat.new }
-    ensures beat { beat.old ≤ beat.new }
-    ensures later { P.faults journal.old ≤ P.faults journal.new }
-    ensures later_out { O.faults out.old ≤ O.faults out.new }
-{
-    let mut last = before;
-    for i in 0..bytes.len() {
-        match byte_turn(
-            alloc, home, scanner, bytes[i], last, journal, clock, out, beat,
-        ) {
-            Ok(Flow::Goes(now)) => last = now,
-            Ok(Flow::Ends(now)) => return Ok(Flow::Ends(now)),
-            Err(status) => return Err(status),
-        }
-    }
-    Ok(Flow::Goes(last))
-}
-
-// The input's end: a command that has begun, or a comment that isn't closed, is none.
+// Does what comes to its end with the input, or at its limit. Where there is nothing, the run ends with the status that is given.
 #[tactic(auto, using(cd_turn::proofs::Homes::rests_moments))]
-fn ended<P: Disk, C: Clock, O: Sink>(
+fn finish<P: Disk, C: Clock, O: Sink>(
     alloc: Global,
     home: &mut Home,
-    is_rest: bool,
-    last: Last,
+    found: Option<Found>,
+    if_none: Status,
     journal: &mut P,
     clock: &mut C,
     out: &mut O,
     beat: &mut Beat,
-) -> Result<Flow, Status>
+) -> Status
     requires legal { IsLegal home.old.entries }
     requires sound { home.old.journal.sound ≡ true }
     requires home { P.told → IsHome home.old (P.state journal.old) }
     requires order { P.told → last_of (P.state journal.old).calls ≤ beat.old }
-    ensures legal { OnOk result (IsLegal home.new.entries) }
-    ensures sound { OnOk result (home.new.journal.sound ≡ true) }
-    ensures goes { P.told → OnOk result (GoneOn home.old.entries (P.state journal.old) beat.old home.new (P.state journal.new) beat.new) }
-    ensures turned { O.told → OnOk result (HaveTurned home.old.entries (O.taken out.old) home.new.entries (O.taken out.new)) }
-    ensures failed { IfErr result (λ status. EndedWell status → ⊥) }
-    ensures moments { P.told → OnErr result (Moments (LeftAt (P.state journal.old)) (LeftAt (P.state journal.new)) beat.old (MayLeave ((P.state journal.old).seen ≡ []) home.old.entries)) }
-    ensures reason { IfErr result (EndedBy (Rose (P.faults journal.old) (P.faults journal.new)) (λ _. P.told → ⊥) ⊥ (Rose (O.faults out.old) (O.faults out.new))) }
+    requires none { EndedBy ⊥ (λ _. ⊥) ⊥ ⊥ if_none }
+    ensures finishes { (was : Bool) → Finishes P.told C.told O.told (C.moment clock.old) (standing home.old.entries (O.taken out.old) was) (P.state journal.old)
+        (events_of found) if_none home.new.entries (P.state journal.new) (O.taken out.new) result }
+    ensures legal { IfBetween result (IsLegal home.new.entries) }
+    ensures goes { P.told → IfBetween result (GoneOn home.old.entries (P.state journal.old) beat.old home.new (P.state journal.new) beat.new) }
+    ensures moments { P.told → Moments (LeftAt (P.state journal.old)) (LeftAt (P.state journal.new)) beat.old (MayLeave ((P.state journal.old).seen ≡ []) home.old.entries) }
+    ensures reason { EndedBy (Rose (P.faults journal.old) (P.faults journal.new)) (λ _. P.told → ⊥) ⊥ (Rose (O.faults out.old) (O.faults out.new)) result }
     ensures order { P.told → last_of (P.state journal.new).calls ≤ beat.new }
     ensures beat { beat.old ≤ beat.new }
     ensures later { P.faults journal.old ≤ P.faults journal.new }
     ensures later_out { O.faults out.old ≤ O.faults out.new }
 {
-    if !is_rest {
-        return Ok(Flow::Ends(last));
-    }
-    match found_turn(alloc, home, None, journal, clock, out, beat) {
-        Ok(_) => Ok(Flow::Ends(Last::Refused)),
-        Err(status) => Err(status),
-    }
-}
-
-// The input goes on behind the bytes that are read at most: where a command has all its room, it is too long.
-#[tactic(auto, using(cd_turn::proofs::Homes::rests_moments))]
-fn passed_limit<P: Disk, C: Clock, O: Sink>(
-    alloc: Global,
-    home: &mut Home,
-    is_full: bool,
-    journal: &mut P,
-    clock: &mut C,
-    out: &mut O,
-    beat: &mut Beat,
-) -> Result<Flow, Status>
-    requires legal { IsLegal home.old.entries }
-    requires sound { home.old.journal.sound ≡ true }
-    requires home { P.told → IsHome home.old (P.state journal.old) }
-    requires order { P.told → last_of (P.state journal.old).calls ≤ beat.old }
-    ensures legal { OnOk result (IsLegal home.new.entries) }
-    ensures sound { OnOk result (home.new.journal.sound ≡ true) }
-    ensures goes { P.told → OnOk result (GoneOn home.old.entries (P.state journal.old) beat.old home.new (P.state journal.new) beat.new) }
-    ensures turned { O.told → OnOk result (HaveTurned home.old.entries (O.taken out.old) home.new.entries (O.taken out.new)) }
-    ensures failed { IfErr result (λ status. EndedWell status → ⊥) }
-    ensures moments { P.told → OnErr result (Moments (LeftAt (P.state journal.old)) (LeftAt (P.state journal.new)) beat.old (MayLeave ((P.state journal.old).seen ≡ []) home.old.entries)) }
-    ensures reason { IfErr result (EndedBy (Rose (P.faults journal.old) (P.faults journal.new)) (λ _. P.told → ⊥) ⊥ (Rose (O.faults out.old) (O.faults out.new))) }
-    ensures order { P.told → last_of (P.state journal.new).calls ≤ beat.new }
-    ensures beat { beat.old ≤ beat.new }
-    ensures later { P.faults journal.old ≤ P.faults journal.new }
-    ensures later_out { O.faults out.old ≤ O.faults out.new }
-{
-    if !is_full {
-        return Err(Status::InputLimit);
-    }
-    match found_turn(alloc, home, None, journal, clock, out, beat) {
-        Ok(_) => Ok(Flow::Ends(Last::Refused)),
-        Err(status) => Err(status),
-    }
-}
-
-// Reads on, and does the commands in what came. `left` is how many bytes may be read still.
-#[tactic(auto, using(cd_turn::proofs::Homes::rests_moments))]
-fn read_on<P: Disk, C: Clock, S: Source, O: Sink>(
-    alloc: Global,
-    home: &mut Home,
-    scanner: &mut Scanner,
-    last: Last,
-    left: &mut usize,
-    journal: &mut P,
-    clock: &mut C,
-    input: &mut S,
-    out: &mut O,
-    beat: &mut Beat,
-) -> Result<Flow, Status>
-    requires legal { IsLegal home.old.entries }
-    requires sound { home.old.journal.sound ≡ true }
-    requires home { P.told → IsHome home.old (P.state journal.old) }
-    requires order { P.told → last_of (P.state journal.old).calls ≤ beat.old }
-    ensures legal { OnOk result (IsLegal home.new.entries) }
-    ensures sound { OnOk result (home.new.journal.sound ≡ true) }
-    ensures goes { P.told → OnOk result (GoneOn home.old.entries (P.state journal.old) beat.old home.new (P.state journal.new) beat.new) }
-    ensures turned { O.told → OnOk result (HaveTurned home.old.entries (O.taken out.old) home.new.entries (O.taken out.new)) }
-    ensures failed { IfErr result (λ status. EndedWell status → ⊥) }
-    ensures moments { P.told → OnErr result (Moments (LeftAt (P.state journal.old)) (LeftAt (P.state journal.new)) beat.old (MayLeave ((P.state journal.old).seen ≡ []) home.old.entries)) }
-    ensures reason { IfErr result (EndedBy (Rose (P.faults journal.old) (P.faults journal.new)) (λ _. P.told → ⊥) (Rose (S.faults input.old) (S.faults input.new)) (Rose (O.faults out.old) (O.faults out.new))) }
-    ensures order { P.told → last_of (P.state journal.new).calls ≤ beat.new }
-    ensures beat { beat.old ≤ beat.new }
-    ensures later { P.faults journal.old ≤ P.faults journal.new }
-    ensures later_out { O.faults out.old ≤ O.faults out.new }
-    ensures later_in { S.faults input.old ≤ S.faults input.new }
-{
-    let mut piece = [0u8; PIECE];
-    let room = (*left).max(1).min(PIECE);
-    let Ok(len) = input.read(&mut piece[..room]) else {
-        return Err(Status::SourceFault);
+    let Some(found) = found else {
+        return if_none;
     };
-    if len == 0 {
-        return ended(
-            alloc,
-            home,
-            scanner.is_rest(),
-            last,
-            journal,
-            clock,
-            out,
-            beat,
-        );
+    match found_turn(alloc, home, &found, journal, clock, out, beat) {
+        Ok(flow) => flow.last().status(),
+        Err(status) => status,
     }
-    if *left == 0 {
-        return passed_limit(alloc, home, scanner.is_full(), journal, clock, out, beat);
-    }
-    *left -= len;
-    feed(
-        alloc,
-        home,
-        scanner,
-        &piece[..len],
-        last,
-        journal,
-        clock,
-        out,
-        beat,
-    )
 }
 
 // Reads the input to its end, or up to what ends the run.
@@ -319,18 +166,15 @@ fn serve<P: Disk, C: Clock, S: Source, O: Sink>(
     input: &mut S,
     out: &mut O,
     beat: &mut Beat,
-) -> Result<Last, Status>
+) -> Status
     requires legal { IsLegal home.old.entries }
     requires sound { home.old.journal.sound ≡ true }
     requires home { P.told → IsHome home.old (P.state journal.old) }
     requires order { P.told → last_of (P.state journal.old).calls ≤ beat.old }
-    ensures legal { OnOk result (IsLegal home.new.entries) }
-    ensures sound { OnOk result (home.new.journal.sound ≡ true) }
-    ensures goes { P.told → OnOk result (GoneOn home.old.entries (P.state journal.old) beat.old home.new (P.state journal.new) beat.new) }
-    ensures turned { O.told → OnOk result (HaveTurned home.old.entries (O.taken out.old) home.new.entries (O.taken out.new)) }
-    ensures failed { IfErr result (λ status. EndedWell status → ⊥) }
-    ensures moments { P.told → OnErr result (Moments (LeftAt (P.state journal.old)) (LeftAt (P.state journal.new)) beat.old (MayLeave ((P.state journal.old).seen ≡ []) home.old.entries)) }
-    ensures reason { IfErr result (EndedBy (Rose (P.faults journal.old) (P.faults journal.new)) (λ _. P.told → ⊥) (Rose (S.faults input.old) (S.faults input.new)) (Rose (O.faults out.old) (O.faults out.new))) }
+    ensures ran { Ran P.told C.told S.told O.told (C.moment clock.old) home.old.entries (O.taken out.old) (S.remaining input.old) (S.remaining input.new)
+        (P.state journal.new) (O.taken out.new) result }
+    ensures moments { P.told → Moments (LeftAt (P.state journal.old)) (LeftAt (P.state journal.new)) beat.old (MayLeave ((P.state journal.old).seen ≡ []) home.old.entries) }
+    ensures reason { EndedBy (Rose (P.faults journal.old) (P.faults journal.new)) (λ _. P.told → ⊥) (Rose (S.faults input.old) (S.faults input.new)) (Rose (O.faults out.old) (O.faults out.new)) result }
     ensures order { P.told → last_of (P.state journal.new).calls ≤ beat.new }
     ensures beat { beat.old ≤ beat.new }
     ensures later { P.faults journal.old ≤ P.faults journal.new }
@@ -338,27 +182,64 @@ fn serve<P: Disk, C: Clock, S: Source, O: Sink>(
     ensures later_in { S.faults input.old ≤ S.faults input.new }
 {
     let mut scanner = Scanner::new(alloc);
+    let mut reader = Reader::new();
     let mut last = Last::Done;
-    let mut left = MAX_INPUT;
-    for _ in 0..=MAX_INPUT {
-        match read_on(
+    for _i in 0..MAX_INPUT {
+        let byte = match reader.next(input) {
+            Ok(Some(byte)) => byte,
+            Ok(None) => {
+                return finish(
+                    alloc,
+                    home,
+                    scanner.end(),
+                    last.status(),
+                    journal,
+                    clock,
+                    out,
+                    beat,
+                );
+            }
+            Err(_) => return Status::SourceFault,
+        };
+        match byte_turn(
             alloc,
             home,
             &mut scanner,
+            byte,
             last,
-            &mut left,
             journal,
             clock,
-            input,
             out,
             beat,
         ) {
             Ok(Flow::Goes(now)) => last = now,
-            Ok(Flow::Ends(now)) => return Ok(now),
-            Err(status) => return Err(status),
+            Ok(Flow::Ends(now)) => return now.status(),
+            Err(status) => return status,
         }
     }
-    Err(Status::InputLimit)
+    match reader.next(input) {
+        Ok(Some(_)) => finish(
+            alloc,
+            home,
+            scanner.over(),
+            Status::InputLimit,
+            journal,
+            clock,
+            out,
+            beat,
+        ),
+        Ok(None) => finish(
+            alloc,
+            home,
+            scanner.end(),
+            last.status(),
+            journal,
+            clock,
+            out,
+            beat,
+        ),
+        Err(_) => Status::SourceFault,
+    }
 }
 
 // Opens the home, and serves.
@@ -371,8 +252,8 @@ fn run<P: Disk, C: Clock, S: Source, O: Sink>(
     beat: &mut Beat,
 ) -> Status
     requires { P.told → last_of (P.state journal.old).calls ≤ beat.old }
+    ensures came { Came P.told C.told S.told O.told (C.moment clock.old) (P.state journal.old) (P.state journal.new) (S.remaining input.old) (S.remaining input.new) (O.taken out.old) (O.taken out.new) result }
     ensures moments { P.told → Moments (LeftAt (P.state journal.old)) (LeftAt (P.state journal.new)) beat.old (RunMayLeave (P.state journal.old)) }
-    ensures turned { P.told → O.told → EndedWell result → RanThrough (P.state journal.old).seen (O.taken out.old) (P.state journal.new).seen (O.taken out.new) }
     ensures reason { EndedBy (Rose (P.faults journal.old) (P.faults journal.new)) (λ at. P.told → IsUnfit (P.state journal.old).seen at) (Rose (S.faults input.old) (S.faults input.new)) (Rose (O.faults out.old) (O.faults out.new)) result }
     ensures order { P.told → last_of (P.state journal.new).calls ≤ beat.new }
     ensures beat { beat.old ≤ beat.new }
@@ -387,29 +268,14 @@ fn run<P: Disk, C: Clock, S: Source, O: Sink>(
         Err(JournalFault::Unfit(at)) => return Status::Unfit(at),
         Err(JournalFault::NoMemory) => return Status::NoMemory,
     };
-    match serve(alloc, &mut home, journal, clock, input, out, beat) {
-        Ok(Last::Done) => Status::Done,
-        Ok(Last::Refused) => Status::Refused,
-        Err(status) => status,
-    }
-}
-
-// Writes the line that ends a run. Where that fails, the status stands.
-fn tell_last<O: Sink>(alloc: Global, status: Status, out: &mut O)
-    ensures taken { O.told → TookFront (O.taken out.old) (last_line status) (O.taken out.new) }
-    ensures later { O.faults out.old ≤ O.faults out.new }
-{
-    if let Ok(line) = status.line(alloc) {
-        let _ = out.write(&line);
-    }
+    serve(alloc, &mut home, journal, clock, input, out, beat)
 }
 
 /// Runs the node on the journal: reads commands from the input, and writes a line for each to the output. A submission
 /// gets its number, and is on the disk before the line that acknowledges it is written. It takes no words.
 ///
-/// A crash at any moment leaves a journal that begins with all entries that were kept before it. A run that comes to its
-/// end made turns, one after the other: they lead from the entries of the journal before it to those of the journal after
-/// it, and the output took the line of each reply, in order.
+/// A crash at any moment leaves a journal that begins with all entries that were kept before it. A run makes turns, one after
+/// the other, of the commands of the input, and the status tells how far it came.
 pub fn run_node<P: Disk, C: Clock, S: Source, O: Sink>(
     alloc: Global,
     words: &[&str],
@@ -420,18 +286,28 @@ pub fn run_node<P: Disk, C: Clock, S: Source, O: Sink>(
     beat: &mut Beat,
 ) -> Status
     requires { P.told → last_of (P.state journal.old).calls ≤ beat.old }
-    ensures moments { P.told → Moments (LeftAt (P.state journal.old)) (LeftAt (P.state journal.new)) beat.old (RunMayLeave (P.state journal.old)) }
-    ensures usage { 0 < length words.now → result ≡ Status.Usage }
+    // With words it does nothing.
+    ensures usage { 0 < length words.now → (result ≡ Status.Usage) × (journal.new ≡ journal.old) × (input.new ≡ input.old) × (beat.new ≡ beat.old) }
+    ensures usage_line { 0 < length words.now → O.told → TookLine (Rose (O.faults out.old) (O.faults out.new)) (O.taken out.old) (last_line Status.Usage) (O.taken out.new) }
+    // What it did, and how far it came.
+    ensures served { length words.now ≡ 0 → Served P.told C.told S.told O.told (Rose (O.faults out.old) (O.faults out.new)) (C.moment clock.old)
+        (P.state journal.old) (P.state journal.new) (S.remaining input.old) (S.remaining input.new) (O.taken out.old) (O.taken out.new) result }
+    // Where no device fails, it does all of an input that isn't longer than what is read at most.
+    ensures complete { length words.now ≡ 0 → P.told → C.told → S.told → O.told → IsFit (P.state journal.old).seen → length (S.remaining input.old) ≤ most_input
+        → (Rose (P.faults journal.old) (P.faults journal.new) → ⊥) → (Rose (S.faults input.old) (S.faults input.new) → ⊥) → (Rose (O.faults out.old) (O.faults out.new) → ⊥)
+        → Completes (C.moment clock.old) (P.state journal.old).seen (S.remaining input.old) (O.taken out.old) (O.taken out.new) result }
+    // A fault of a device has its cause in this call, and so has a journal that isn't one.
     ensures reason { length words.now ≡ 0 → EndedBy (Rose (P.faults journal.old) (P.faults journal.new)) (λ at. P.told → IsUnfit (P.state journal.old).seen at) (Rose (S.faults input.old) (S.faults input.new)) (Rose (O.faults out.old) (O.faults out.new)) result }
-    ensures turned { length words.now ≡ 0 → P.told → O.told → EndedWell result → RanThrough (P.state journal.old).seen (O.taken out.old) (P.state journal.new).seen (O.taken out.new) }
+    // What a crash may leave, at each moment of the call.
+    ensures moments { P.told → Moments (LeftAt (P.state journal.old)) (LeftAt (P.state journal.new)) beat.old (RunMayLeave (P.state journal.old)) }
     ensures order { P.told → last_of (P.state journal.new).calls ≤ beat.new }
     ensures beat { beat.old ≤ beat.new }
 {
     if !words.is_empty() {
-        tell_last(alloc, Status::Usage, out);
+        tell_last(Status::Usage, out);
         return Status::Usage;
     }
     let status = run(alloc, journal, clock, input, out, beat);
-    tell_last(alloc, status, out);
+    tell_last(status, out);
     status
 }

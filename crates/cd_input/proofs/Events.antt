@@ -68,9 +68,10 @@ pub all_begin : (most : ℕ) (read rest : List ℕ) → length read ≤ most →
 all_begin most read rest fits =
     let first : take most (read ++ rest) ≡ read ++ take (most - length read) rest = take_over most read rest fits in
     let more = take (most - length read) rest in
-    let last = cond (leb (length (read ++ rest)) most) (end_events (scanned begin (take most (read ++ rest)))) (limit_events (scanned begin (take most (read ++ rest)))) in
-    (events (scanned begin read) more ++ last,
-      ap (λ (bytes : List ℕ). events begin bytes ++ last) first ∙ ap (λ (es : List Event). es ++ last) (events_then begin read more) ∙ append_assoc (events begin read) (events (scanned begin read) more) last)
+    let last = cond (leb (length (read ++ rest)) most) (end_events (scanned begin (take most (read ++ rest)))) (limit_events (scanned begin (take most (read ++ rest)))) in (
+      events (scanned begin read) more ++ last,
+      ap (λ (bytes : List ℕ). events begin bytes ++ last) first ∙ ap (λ (es : List Event). es ++ last) (events_then begin read more) ∙ append_assoc (events begin read) (events (scanned begin read) more) last,
+    )
 
 -- the input came to its end
 pub all_ended : (most : ℕ) (read : List ℕ) → length read ≤ most → all_events most read ≡ events begin read ++ end_events (scanned begin read)

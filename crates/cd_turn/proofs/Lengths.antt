@@ -62,8 +62,8 @@ parts_of bs h =
     let four : length (take 4 bs) ≡ 4 = let w = is.whole in omega (arith, length-take 4 bs) in
     let split : take 4 bs ++ drop 4 bs ≡ bs = take-append-drop 4 bs in
     let told_is : (rest : List ℕ) → told_length (bs ++ rest) ≡ len = λ rest.
-        ap (λ (l : List ℕ). told_length (l ++ rest)) (sym split) ∙ ap told_length (append_assoc (take 4 bs) (drop 4 bs) rest) ∙ told_length-append (take 4 bs) (drop 4 bs ++ rest) four
-        ∙ sym (told_length-append (take 4 bs) (drop 4 bs) four) ∙ ap told_length split in
+    ap (λ (l : List ℕ). told_length (l ++ rest)) (sym split) ∙ ap told_length (append_assoc (take 4 bs) (drop 4 bs) rest) ∙ told_length-append (take 4 bs) (drop 4 bs ++ rest) four
+    ∙ sym (told_length-append (take 4 bs) (drop 4 bs) four) ∙ ap told_length split in
     record {
       len = len;
       told = told_is;
@@ -82,6 +82,7 @@ parts_of bs h =
     take_front zero xs ys le = refl
     take_front (suc n) [] ys le = absurd (omega arith)
     take_front (suc n) (x ∷ xs) ys le = ap (λ (l : List ℕ). x ∷ l) (take_front n xs ys (omega arith))
+
     drop_front : (xs ys : List ℕ) → 4 ≤ length xs → drop 4 (xs ++ ys) ≡ drop 4 xs ++ ys
     drop_front [] ys le = absurd (omega arith)
     drop_front (a ∷ []) ys le = absurd (omega arith)
@@ -121,13 +122,13 @@ unfolding bodies_length
 entry_more at b bs bodies p go ih =
     let go_on : (rest : List ℕ) → with_first p.body (gates (4 + p.len) (at + 1) (bs ++ rest)) ≡ after_bodies bodies (gates 0 (at + length (b ∷ bs)) rest) =
     λ rest. ap (λ (body : List ℕ). with_first body (gates (4 + p.len) (at + 1) (bs ++ rest))) (sym (p.first rest))
-        ∙ ap (λ (n : ℕ). with_first (first_body (bs ++ rest)) (gates (4 + n) (at + 1) (bs ++ rest))) (sym (p.told rest)) ∙ go rest in
+    ∙ ap (λ (n : ℕ). with_first (first_body (bs ++ rest)) (gates (4 + n) (at + 1) (bs ++ rest))) (sym (p.told rest)) ∙ go rest in
     let shut : with_first p.body (gates (4 + p.len) (at + 1) (bs ++ 0 ∷ [])) ≡ listed bodies =
     go_on (0 ∷ []) ∙ ap (after_bodies bodies) (gates_shut 0 (at + length (b ∷ bs)) []) ∙ ap listed (append-nil bodies) in
     let parts = with_first_parts p.body (gates (4 + p.len) (at + 1) (bs ++ 0 ∷ [])) bodies shut in
     let goes : Goes (4 + p.len) (at + 1) bs parts.0 = moved (4 + p.len) at b bs parts.0
-        (λ rest. first_off p.body parts.0 (gates (4 + p.len) (at + 1) (bs ++ rest)) (gates 0 (at + length (b ∷ bs)) rest)
-            (go_on rest ∙ ap (λ (l : List (List ℕ)). after_bodies l (gates 0 (at + length (b ∷ bs)) rest)) parts.1)) in
+    (λ rest. first_off p.body parts.0 (gates (4 + p.len) (at + 1) (bs ++ rest)) (gates 0 (at + length (b ∷ bs)) rest)
+    (go_on rest ∙ ap (λ (l : List (List ℕ)). after_bodies l (gates 0 (at + length (b ∷ bs)) rest)) parts.1)) in
     let more : length bs ≡ 4 + p.len + bodies_length parts.0 = ih (4 + p.len) parts.0 goes in
     let sum : bodies_length bodies ≡ 5 + length p.body + bodies_length parts.0 = ap bodies_length parts.1 ∙ bodies_first p.body parts.0 in
     let same = p.body_len in
@@ -199,6 +200,7 @@ header_length (w ∷ wanted) at (b ∷ front) bodies some go =
   where
     Behind : Type 0
     Behind = (rest : List ℕ) → after_header wanted (at + 1) (front ++ rest) ≡ after_bodies bodies (gates 0 (at + 1 + length front) rest)
+
     by_byte : (t : Bool) → ((rest : List ℕ) → cond t (after_header wanted (at + 1) (front ++ rest)) (unfit at) ≡ after_bodies bodies (gates 0 (at + length (b ∷ front)) rest))
         → (Behind → length front ≡ length wanted + bodies_length bodies) → length front ≡ length wanted + bodies_length bodies
     by_byte true go ih = ih (λ rest. let place : at + length (b ∷ front) ≡ at + 1 + length front = omega arith in go rest ∙ ap (λ (k : ℕ). after_bodies bodies (gates 0 k rest)) place)

@@ -333,11 +333,7 @@ impl Home {
 
     /// Opens the home of this disk: syncs, reads the journal's entries, and sees that each may follow those before it.
     /// `Unfit` tells the first place that isn't as it has to be, exactly where there is one.
-    pub fn open<P: Disk>(
-        alloc: Global,
-        disk: &mut P,
-        beat: &mut Beat,
-    ) -> Result<Self, JournalFault>
+    pub fn open<P: Disk>(alloc: Global, disk: &mut P, beat: &mut Beat) -> Result<Self, JournalFault>
         requires { P.told → last_of (P.state disk.old).calls ≤ beat.old }
         ensures home { P.told → IfOk result (λ home. IsHome home (P.state disk.new)) }
         ensures legal { IfOk result (λ home. IsLegal home.entries) }
@@ -441,11 +437,7 @@ impl Home {
     }
 
     /// Makes the journal of a disk without bytes. A stop within may leave any bytes, up to nine.
-    pub fn make<P: Disk>(
-        &mut self,
-        disk: &mut P,
-        beat: &mut Beat,
-    ) -> Result<(), JournalFault>
+    pub fn make<P: Disk>(&mut self, disk: &mut P, beat: &mut Beat) -> Result<(), JournalFault>
         requires header { self.old.journal.has_header ≡ false }
         requires home { P.told → IsHome self.old (P.state disk.old) }
         requires order { P.told → last_of (P.state disk.old).calls ≤ beat.old }

@@ -1,12 +1,32 @@
-use Rattle.std.proofs.Common.{◌≡◌, ℕ, sym, ◌∙◌, arith}
+use Rattle.std.proofs.Common.{◌≡◌, List, [], ◌∷◌, ap, sym, subst, ◌∙◌}
+use Rattle.cd_input.specs.Input.{Scan, Event, scan_after}
+use Rattle.cd_input.specs.Scanner.{events_of}
+use Rattle.cd_cli.specs.Flow.{was_refused}
+use Rattle.cd_cli.specs.Stretch.{standing, Went, Halted}
 use Rattle.cd_cli.proofs.Going.{gone_none}
-use Rattle.cd_cli.proofs.Turning.{turned_none}
+use Rattle.cd_cli.proofs.Halting.{went_none, halted_none, keeps_rest}
 use Rattle.cd_cli.proofs.run.byte_turn.Goals as goal
 
--- src/run.rt:106:1
+-- nothing came to its end
+pub returns-in-Ok-None-clause-went : goal.returns-in-Ok-None-clause-went
+returns-in-Ok-None-clause-went g c =
+    went_none g.P.Disk.told g.C.Clock.told g.O.Sink.told (g.C.Clock.moment c.args.clock.now) c.args.home.now.entries (g.O.Sink.taken c.args.out.now) c.args.last (scan_after c.args.scanner.now c.args.byte).1
+    (ap (λ (p : Scan × List Event). p.1) c.in-Ok-None.ensures.ok ∙ ap events_of c.in-Ok-None.field-0-is)
+
 pub returns-in-Ok-None-clause-goes : goal.returns-in-Ok-None-clause-goes
 returns-in-Ok-None-clause-goes g c = λ told.
     gone_none c.args.home.now (g.P.Disk.state c.args.journal.now) c.args.beat.now c.requires.legal (c.requires.home told) (c.requires.order told)
 
-pub returns-in-Ok-None-clause-turned : goal.returns-in-Ok-None-clause-turned
-returns-in-Ok-None-clause-turned g c = λ told. turned_none c.args.home.now.entries (g.O.Sink.taken c.args.out.now)
+-- a turn was made
+pub returns-in-Ok-clause-went : goal.returns-in-Ok-clause-went
+returns-in-Ok-clause-went g c =
+    subst (λ (es : List Event).
+    Went g.P.Disk.told g.C.Clock.told g.O.Sink.told (g.C.Clock.moment c.args.clock.now) (standing c.args.home.now.entries (g.O.Sink.taken c.args.out.now) (was_refused c.args.last)) es
+    c.found_turn.new.home.entries (g.O.Sink.taken c.found_turn.new.out) c.in-Ok.flow)
+    (sym (ap (λ (p : Scan × List Event). p.1) c.in-Ok-Some.ensures.ok ∙ ap events_of c.in-Ok-Some.field-0-is)) (c.in-Ok.ensures.went (was_refused c.args.last))
+
+-- memory ran out
+pub returns-clause-halted : goal.returns-clause-halted
+returns-clause-halted g c =
+    halted_none g.P.Disk.told g.C.Clock.told g.O.Sink.told (g.C.Clock.moment c.args.clock.now) c.args.home.now.entries (g.O.Sink.taken c.args.out.now) (was_refused c.args.last) (scan_after c.args.scanner.now c.args.byte).1
+    (g.P.Disk.state c.args.journal.now) (λ told. keeps_rest c.args.home.now (g.P.Disk.state c.args.journal.now) c.requires.legal (c.requires.home told))

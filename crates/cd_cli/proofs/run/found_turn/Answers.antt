@@ -1,20 +1,38 @@
-use Rattle.std.proofs.Common.{sym, ap, ◌∙◌, option_map}
+use Rattle.std.proofs.Common.{◌≡◌, [], ap, sym, ◌∙◌, option_map}
 use Rattle.cd_outside.specs.Counts.{Rose}
-use Rattle.cd_turn.specs.Turn.{added}
-use Rattle.cd_input.specs.Input.{Whole, TooLong}
+use Rattle.cd_input.specs.Scanner.{event_of}
 use Rattle.cd_turn.specs.PlainSeen.{seen_command}
-use Rattle.cd_cli.proofs.Turning.{turned_by, turn_failed}
+use Rattle.cd_turn.specs.Turn.{answer, told_by}
+use Rattle.cd_cli.specs.Flow.{was_refused, last_in, ends_by}
+use Rattle.cd_cli.specs.Run.{ends_run}
+use Rattle.cd_cli.proofs.Halting.{halted_one, keeps_behind, once_single}
+use Rattle.cd_cli.proofs.Turning.{turned_one, answer_ends, or_false}
 use Rattle.cd_cli.proofs.run.found_turn.Goals as goal
-use Rattle.cd_cli.proofs.run.found_turn.Goals.{in-Some, in-None}
 
--- the command that came to its end, or one that is too long
-pub returns-clause-turned : goal.returns-clause-turned
-returns-clause-turned g c = λ told.
-    turned_by c.args.home.now.entries c.turn.new.home.entries (g.O.Sink.taken c.args.out.now) (g.O.Sink.taken c.turn.new.out) c.now-now.result (option_map seen_command c.match-found.command) c.turn.result
-    (elim c.match-found.branch [ in-Some w ↦ (Whole w.in-Some.text.now, sym w.command_of-command.ensures ∙ ap (option_map seen_command) (sym w.command-is)) | in-None w ↦ (TooLong, ap (option_map seen_command) (sym w.command-is)) ])
-    c.turn.ensures.kept c.turn.ensures.reply (c.turn.ensures.out told)
+-- the turn was made
+pub returns-in-Ok-clause-went : goal.returns-in-Ok-clause-went
+returns-in-Ok-clause-went g c = λ was.
+    let event = event_of c.args.found.now in
+    let entries = c.args.home.now.entries in
+    let command = option_map seen_command c.command_in-command.result in
+    let e = c.command_in-command.ensures.told in
+    let is = c.in-Ok.ensures.reply in
+    record {
+      ends = c.flow_of.ensures.ends ∙ ap (ends_by event) (is ∙ ap (answer entries) e) ∙ answer_ends event entries ∙ sym (or_false (ends_run event));
+      once = once_single event;
+      turned = turned_one g.P.Disk.told g.C.Clock.told g.O.Sink.told (g.C.Clock.moment c.args.clock.now) entries c.make_turn.new.home.entries (g.O.Sink.taken c.args.out.now) (g.O.Sink.taken c.make_turn.new.out) was
+          (was_refused (last_in c.flow_of.result)) c.now-now.result event command c.in-Ok.reply e c.in-Ok.ensures.kept is (λ told. c.in-Ok.ensures.out told) (λ told. c.in-Ok.ensures.fits told) (λ told. c.now-now.ensures.moment told) c.flow_of.ensures.last;
+    }
 
-pub returns-clause-failed : goal.returns-clause-failed
-returns-clause-failed g c =
-    turn_failed (Rose (g.P.Disk.faults c.args.journal.now) (g.P.Disk.faults c.turn.new.journal)) (g.P.Disk.told → ⊥) (Rose (g.O.Sink.faults c.args.out.now) (g.O.Sink.faults c.turn.new.out))
-    (added c.args.home.now.entries c.now-now.result (option_map seen_command c.match-found.command)) c.turn.result c.turn.ensures.reason
+-- it ended the run
+pub returns-in-Err-clause-halted : goal.returns-in-Err-clause-halted
+returns-in-Err-clause-halted g c = λ was.
+    let event = event_of c.args.found.now in
+    let entries = c.args.home.now.entries in
+    let command = option_map seen_command c.command_in-command.result in
+    let before = g.P.Disk.state c.args.journal.now in
+    let now = g.P.Disk.state c.make_turn.new.journal in
+    halted_one g.P.Disk.told (Rose (g.P.Disk.faults c.args.journal.now) (g.P.Disk.faults c.make_turn.new.journal)) g.C.Clock.told g.O.Sink.told (Rose (g.O.Sink.faults c.args.out.now) (g.O.Sink.faults c.make_turn.new.out)) (g.C.Clock.moment c.args.clock.now) entries
+    (g.O.Sink.taken c.args.out.now) (g.O.Sink.taken c.make_turn.new.out) was c.now-now.result event command now c.in-Err.status
+    c.command_in-command.ensures.told c.in-Err.ensures.reason (λ told. c.in-Err.ensures.took told) (λ told. c.now-now.ensures.moment told)
+    (λ told. keeps_behind before now c.args.beat.now (before.seen ≡ []) entries (c.in-Err.ensures.moments told))

@@ -1,8 +1,33 @@
-use Rattle.cd_cli.proofs.Turning.{ran_told}
+use Rattle.std.proofs.Common.{◌≡◌, ◌≤◌, ◌∙◌}
+use Rattle.cd_outside.specs.Counts.{Rose}
+use Rattle.cd_turn.specs.Home.{IsUnfit}
+use Rattle.cd_turn.specs.Status.{last_line}
+use Rattle.cd_cli.proofs.Completing.{served_completes}
+use Rattle.cd_cli.proofs.Going.{ended_weaker, rose_before, took_since}
 use Rattle.cd_cli.proofs.run.run_node.Goals as goal
 
 -- the run, and then its last line
-pub returns-clause-turned : goal.returns-clause-turned
-returns-clause-turned g c = λ none told told_out well.
-    ran_told c.run-status.result (g.P.Disk.state c.args.journal.now).seen (g.O.Sink.taken c.args.out.now) (g.P.Disk.state c.run-status.new.journal).seen (g.O.Sink.taken c.run-status.new.out) (g.O.Sink.taken c.tell_last-2.new.out) well
-    (c.tell_last-2.ensures.taken told_out) (c.run-status.ensures.turned told told_out well)
+pub returns-clause-served : goal.returns-clause-served
+returns-clause-served g c = λ none. record {
+  told = g.O.Sink.taken c.run-status.new.out;
+  came = c.run-status.ensures.came;
+  last = λ told.
+      took_since (g.O.Sink.faults c.args.out.now) (g.O.Sink.faults c.run-status.new.out) (g.O.Sink.faults c.tell_last-2.new.out) (g.O.Sink.taken c.run-status.new.out) (last_line c.run-status.result) (g.O.Sink.taken c.tell_last-2.new.out)
+      c.run-status.ensures.later_out (c.tell_last-2.ensures.taken told);
+}
+
+pub returns-clause-reason : goal.returns-clause-reason
+returns-clause-reason g c = λ none.
+    let rest = c.tell_last-2.ensures.later in
+    ended_weaker (Rose (g.P.Disk.faults c.args.journal.now) (g.P.Disk.faults c.run-status.new.journal)) (Rose (g.P.Disk.faults c.args.journal.now) (g.P.Disk.faults c.run-status.new.journal))
+    (λ at. g.P.Disk.told → IsUnfit (g.P.Disk.state c.args.journal.now).seen at) (λ at. g.P.Disk.told → IsUnfit (g.P.Disk.state c.args.journal.now).seen at)
+    (Rose (g.S.Source.faults c.args.input.now) (g.S.Source.faults c.run-status.new.input)) (Rose (g.S.Source.faults c.args.input.now) (g.S.Source.faults c.run-status.new.input))
+    (Rose (g.O.Sink.faults c.args.out.now) (g.O.Sink.faults c.run-status.new.out)) (Rose (g.O.Sink.faults c.args.out.now) (g.O.Sink.faults c.tell_last-2.new.out))
+    (λ rose. rose) (λ at unfit. unfit) (λ rose. rose) (λ rose. rose_before (g.O.Sink.faults c.args.out.now) (g.O.Sink.faults c.run-status.new.out) (g.O.Sink.faults c.tell_last-2.new.out) rest rose) c.run-status.result c.run-status.ensures.reason
+
+pub returns-clause-complete : goal.returns-clause-complete
+returns-clause-complete g c = λ none disk clock source sink fit small no_disk no_in no_out.
+    served_completes g.P.Disk.told g.C.Clock.told g.S.Source.told g.O.Sink.told (Rose (g.P.Disk.faults c.args.journal.now) (g.P.Disk.faults c.run-status.new.journal))
+    (Rose (g.S.Source.faults c.args.input.now) (g.S.Source.faults c.run-status.new.input)) (Rose (g.O.Sink.faults c.args.out.now) (g.O.Sink.faults c.tell_last-2.new.out)) (g.C.Clock.moment c.args.clock.now)
+    (g.P.Disk.state c.args.journal.now) (g.P.Disk.state c.run-status.new.journal) (g.S.Source.remaining c.args.input.now) (g.S.Source.remaining c.run-status.new.input) (g.O.Sink.taken c.args.out.now)
+    disk clock source sink fit small no_disk no_in no_out (g.O.Sink.taken c.tell_last-2.new.out) c.run-status.result (returns-clause-reason g c none) (returns-clause-served g c none)

@@ -1,0 +1,64 @@
+-- Each number that was told is in the journal.
+use Rattle.std.proofs.Common.{◌≡◌, ◌⊎◌, inl, inr, ⊎_elim, ℕ, ◌+◌, ◌≤◌, ◌||◌, ◌&&◌, cond, eqb, ltb, Bool, true, false, List, [], ◌∷◌, ◌++◌, length, Option, Some, None, option_to_list, refl, sym, ap, subst, ◌∙◌}
+use Rattle.std.specs.List.{list_any}
+use Rattle.std.proofs.lemmas.List.Folds.{list_any-append}
+use Rattle.cd_entries.specs.declared.entry.Entry.{Entry}
+use Rattle.cd_turn.specs.Entries.{submitted_in, live_in}
+use Rattle.cd_turn.specs.Home.{KeepsEntries}
+use Rattle.cd_turn.specs.Plain.{Plain, Command, Init, Submit, Stop}
+use Rattle.cd_turn.specs.Turn.{Turn, told_by, answer, submission, added, after_turn, after_turns, replies}
+use Rattle.cd_turn.specs.declared.reply.Reply.TheVariants as reply
+use Rattle.cd_turn.specs.declared.reply.Refusal.TheVariants.{Full}
+use Rattle.cd_cli.specs.Acknowledged.{tells, submits, KeepsNumber}
+use Rattle.cd_cli.specs.Run.{Keeps}
+use Rattle.cd_cli.proofs.Turning.{or_false}
+
+-- what a list has, a longer one has
+has_front : (n : ℕ) (one two : List Entry) → list_any (submits n) one ≡ true → list_any (submits n) (one ++ two) ≡ true
+has_front n one two h = list_any-append (submits n) one two ∙ ap (λ (b : Bool). b || list_any (submits n) two) h
+
+has_back : (n : ℕ) (one two : List Entry) → list_any (submits n) two ≡ true → list_any (submits n) (one ++ two) ≡ true
+has_back n one two h = list_any-append (submits n) one two ∙ ap (λ (b : Bool). list_any (submits n) one || b) h ∙ or_true (list_any (submits n) one)
+  where
+    or_true : (b : Bool) → (b || true) ≡ true
+    or_true true = refl
+    or_true false = refl
+
+has_later : (n : ℕ) (entries : List Entry) (turns : List Turn) → list_any (submits n) entries ≡ true → list_any (submits n) (after_turns entries turns) ≡ true
+has_later n entries [] h = h
+has_later n entries (turn ∷ turns) h = has_later n (after_turn entries turn) turns (has_front n entries (option_to_list (added entries turn.now (told_by turn.event))) h)
+
+room_told : (t : Bool) (n now : ℕ) (entries : List Entry) (p : Plain) → tells n (cond t (reply.Submitted (submitted_in entries + 1)) (reply.Refused (Full 4096))) ≡ true
+    → list_any (submits n) (option_to_list (cond t (Some (submission entries now p)) None)) ≡ true
+room_told true n now entries p h = or_false (eqb (submitted_in entries + 1) n) ∙ h
+room_told false n now entries p h = absurd cc
+
+-- a number is told with its entry
+told_added : (n now : ℕ) (entries : List Entry) (command : Option Command) → tells n (answer entries command) ≡ true → list_any (submits n) (option_to_list (added entries now command)) ≡ true
+told_added n now entries None h = absurd cc
+told_added n now entries (Some Stop) h = absurd cc
+told_added n now [] (Some (Init name home)) h = absurd cc
+told_added n now (e ∷ entries) (Some (Init name home)) h = absurd cc
+told_added n now [] (Some (Submit p)) h = absurd cc
+told_added n now (e ∷ entries) (Some (Submit p)) h = room_told (ltb (live_in (e ∷ entries)) 4096) n now (e ∷ entries) p h
+
+either : (a b : Bool) → (a || b) ≡ true → (a ≡ true) ⊎ (b ≡ true)
+either true b h = inl refl
+either false b h = inr h
+
+pub told_kept : (n : ℕ) (entries : List Entry) (turns : List Turn) → list_any (tells n) (replies entries turns) ≡ true → list_any (submits n) (after_turns entries turns) ≡ true
+told_kept n entries [] h = absurd cc
+told_kept n entries (turn ∷ turns) h =
+    let command = told_by turn.event in
+    ⊎_elim
+    (λ (now : tells n (answer entries command) ≡ true).
+        has_later n (after_turn entries turn) turns (has_back n entries (option_to_list (added entries turn.now command)) (told_added n turn.now entries command now)))
+    (λ (later : list_any (tells n) (replies (after_turn entries turn) turns) ≡ true). told_kept n (after_turn entries turn) turns later)
+    (either (tells n (answer entries command)) (list_any (tells n) (replies (after_turn entries turn) turns)) h)
+
+-- and what a crash leaves has it
+pub keeps_number : (n : ℕ) (entries : List Entry) (image : List ℕ) → list_any (submits n) entries ≡ true → Keeps entries image → KeepsNumber n image
+keeps_number n entries image has keeps = ⊎_elim
+    (λ (k : KeepsEntries entries image). record { list = k.list; stands = k.stands; has = ap (list_any (submits n)) k.extends.1 ∙ has_front n entries k.extends.0 has })
+    (λ (none : (entries ≡ []) × (length image ≤ 9)). let no_entry : false ≡ true = sym (ap (list_any (submits n)) none.0) ∙ has in absurd cc)
+    keeps

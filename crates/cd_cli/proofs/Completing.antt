@@ -1,0 +1,134 @@
+-- Where no device fails, a run does all of its input.
+use Rattle.std.proofs.Common.{◌≡◌, ◌⊎◌, inl, inr, ⊎_elim, ℕ, ◌+◌, ◌^◌, ◌<◌, ◌≤◌, cond, Bool, true, false, List, [], ◌∷◌, ◌++◌, length, map, Option, Some, None, option_to_list, refl, sym, ap, subst, ◌∙◌, arith}
+use Rattle.std.specs.Prelude.{All}
+use Rattle.std.proofs.lemmas.List.{append-nil, map-append}
+use Rattle.std.proofs.lemmas.List.Elements.{All-nil, All-cons, All-head, All-tail}
+use Rattle.cd_outside.specs.Disk.{DiskState}
+use Rattle.cd_outside.specs.Streams.{TookFront}
+use Rattle.cd_entries.specs.declared.entry.Entry.{Entry}
+use Rattle.cd_entries.specs.Entry.{entry_bytes}
+use Rattle.cd_input.specs.Input.{Event}
+use Rattle.cd_turn.specs.Ends.{journal_length, FitsBehind, IsFull}
+use Rattle.cd_turn.specs.Home.{IsUnfit}
+use Rattle.cd_turn.specs.Status.{last_line}
+use Rattle.cd_turn.specs.Turn.{Turn, told_by, added, after_turn, after_turns, replies}
+use Rattle.cd_turn.specs.declared.reply.Reply.{Reply}
+use Rattle.cd_turn.specs.declared.status.Status.{Status}
+use Rattle.cd_turn.specs.declared.status.Status.TheVariants.{Done, Usage, Refused, Unfit, SourceFault, DiskFault, SinkFault, InputLimit, JournalFull, NoMemory}
+use Rattle.cd_cli.specs.Complete.{turns_at, IsFit, whole_status, IsWhole, Completes}
+use Rattle.cd_cli.specs.Run.{most_input, run_events, texts, refused_after, OfBegun, EachFits, EndedBy, IsOpening, Ran, NotOpened, Opened, TookLine, Served}
+
+abbrev event_in : Turn → Event
+event_in turn = turn.event
+
+abbrev At : ℕ → Turn → Type 0
+At moment turn = turn.now ≡ moment
+
+all_front : (moment : ℕ) (xs ys : List Turn) → All (At moment) (xs ++ ys) → All (At moment) xs
+all_front moment [] ys h = All-nil (At moment)
+all_front moment (x ∷ xs) ys h = All-cons (At moment) x xs (All-head (At moment) x (xs ++ ys) h) (all_front moment xs ys (All-tail (At moment) x (xs ++ ys) h))
+
+all_back : (moment : ℕ) (xs ys : List Turn) → All (At moment) (xs ++ ys) → All (At moment) ys
+all_back moment [] ys h = h
+all_back moment (x ∷ xs) ys h = all_back moment xs ys (All-tail (At moment) x (xs ++ ys) h)
+
+turn_is : (moment : ℕ) (turn : Turn) → turn.now ≡ moment → (record { now = moment; event = turn.event }) ≡ turn
+turn_is moment turn e = λ i. record { now = (sym e) i; event = turn.event }
+
+-- turns at one moment are those of their events
+turns_are : (moment : ℕ) (turns : List Turn) → All (At moment) turns → turns_at moment (map event_in turns) ≡ turns
+turns_are moment [] h = refl
+turns_are moment (turn ∷ turns) h =
+    let first = turn_is moment turn (All-head (At moment) turn turns h) in
+    let more = turns_are moment turns (All-tail (At moment) turn turns h) in
+    λ i. first i ∷ more i
+
+-- an entry under way fits where each does
+fits_at : (entries : List Entry) (turns more : List Turn) (turn : Turn) → EachFits entries (turns ++ turn ∷ more) → FitsBehind (after_turns entries turns) (added (after_turns entries turns) turn.now (told_by turn.event))
+fits_at entries [] more turn h = h.0
+fits_at entries (t ∷ turns) more turn h = fits_at (after_turn entries t) turns more turn h.1
+
+full_fits : (told : Type 0) (entries : List Entry) (entry : Option Entry) (len : ℕ) → told → IsFull told entries entry len → FitsBehind entries entry → ⊥
+full_fits told entries entry len t full fits =
+    let small : journal_length entries + 5 + length (entry_bytes full.0) ≤ 2 ^ 30 = subst (FitsBehind entries) full.1 fits in
+    let large = full.2 in
+    let same = full.3 t in
+    omega arith
+
+module _ (disk clock source sink rose_disk rose_in rose_out : Type 0) (moment : ℕ) (before now : DiskState) (input rest out : List ℕ) (tells_disk : disk) (tells_clock : clock) (tells_source : source) (tells_sink : sink)
+    (fit : IsFit before.seen) (small : length input ≤ most_input) (no_disk : rose_disk → ⊥) (no_in : rose_in → ⊥) (no_out : rose_out → ⊥) where
+  abbrev Why : Status → Type 0
+  Why status = EndedBy rose_disk (λ at. disk → IsUnfit before.seen at) rose_in rose_out status
+
+  never_opened : (status : Status) → IsOpening status → Why status → status ≡ NoMemory
+  never_opened Done opening why = absurd opening
+  never_opened Usage opening why = absurd opening
+  never_opened Refused opening why = absurd opening
+  never_opened (Unfit at) opening why = absurd (fit at (why tells_disk))
+  never_opened DiskFault opening why = absurd (no_disk why)
+  never_opened (JournalFull len) opening why = absurd opening
+  never_opened SourceFault opening why = absurd opening
+  never_opened SinkFault opening why = absurd opening
+  never_opened InputLimit opening why = absurd opening
+  never_opened NoMemory opening why = refl
+
+  module _ (entries : List Entry) (told out_now : List ℕ) (fits : EachFits entries (turns_at moment (run_events input))) where
+    abbrev Whole : Status → Type 0
+    Whole status = (status ≡ NoMemory) ⊎ IsWhole moment entries input out out_now status
+
+    abbrev Came : Status → Type 0
+    Came status = Ran disk clock source sink moment entries out input rest now told status
+
+    -- all turns of the input were made
+    whole : (turns : List Turn) (begun : Option Turn) (was : Bool) → All (At moment) (turns ++ option_to_list begun) → map event_in turns ≡ run_events input → refused_after false (replies entries turns) ≡ was
+        → told ≡ out ++ texts (replies entries turns) → out_now ≡ told ++ [] → IsWhole moment entries input out out_now (cond was Refused Done)
+    whole turns begun was at events refused output last =
+        let same : turns_at moment (run_events input) ≡ turns = ap (turns_at moment) (sym events) ∙ turns_are moment turns (all_front moment turns (option_to_list begun) at) in
+        record {
+          status_is = sym (ap (λ (t : List Turn). whole_status (replies entries t)) same ∙ ap (λ (b : Bool). cond b Refused Done) refused);
+          out_is = last ∙ append-nil told ∙ output ∙ ap (λ (t : List Turn). out ++ texts (replies entries t)) (sym same);
+        }
+
+    -- the entry under way fits
+    not_full : (turns : List Turn) (turn : Turn) (more : List Event) (len : ℕ) → All (At moment) (turns ++ turn ∷ []) → run_events input ≡ map event_in turns ++ (turn.event ∷ more)
+        → IsFull disk (after_turns entries turns) (added (after_turns entries turns) turn.now (told_by turn.event)) len → ⊥
+    not_full turns turn more len at events full =
+        let last = turn_is moment turn (All-head (At moment) turn [] (all_back moment turns (turn ∷ []) at)) in
+        let front = turns_are moment turns (all_front moment turns (turn ∷ []) at) in
+        let same : turns_at moment (run_events input) ≡ turns ++ (turn ∷ turns_at moment more) =
+        ap (turns_at moment) events
+        ∙ map-append (λ (event : Event). let t : Turn = record { now = moment; event = event } in t) (map event_in turns) (turn.event ∷ more)
+        ∙ (λ i. front i ++ (last i ∷ turns_at moment more)) in
+        full_fits disk (after_turns entries turns) (added (after_turns entries turns) turn.now (told_by turn.event)) len tells_disk full
+        (fits_at entries turns (turns_at moment more) turn (subst (EachFits entries) same fits))
+
+    full_never : (len : ℕ) → Came (JournalFull len) → ⊥
+    full_never len r = by_begun r.turns r.begun r.cause (r.moments tells_clock) (r.events tells_source)
+      where
+        by_begun : (turns : List Turn) (begun : Option Turn) → OfBegun (after_turns entries turns) begun (λ entry. IsFull disk (after_turns entries turns) entry len) → All (At moment) (turns ++ option_to_list begun)
+            → (more : List Event) × (run_events input ≡ map event_in turns ++ (map event_in (option_to_list begun) ++ more)) → ⊥
+        by_begun turns None cause at events = cause
+        by_begun turns (Some turn) cause at events = not_full turns turn events.0 len at events.1 cause
+
+    ran_whole : (status : Status) → Came status → out_now ≡ told ++ last_line status → Why status → Whole status
+    ran_whole Done r last why = inr (whole r.turns r.begun false (r.moments tells_clock) (r.events tells_source).0 r.cause.1 (r.output tells_sink) last)
+    ran_whole Usage r last why = absurd r.cause
+    ran_whole Refused r last why = inr (whole r.turns r.begun true (r.moments tells_clock) (r.events tells_source).0 r.cause.1 (r.output tells_sink) last)
+    ran_whole (Unfit at) r last why = absurd (r.cause tells_disk)
+    ran_whole DiskFault r last why = absurd (no_disk why)
+    ran_whole (JournalFull len) r last why = absurd (full_never len r)
+    ran_whole SourceFault r last why = absurd (no_in why)
+    ran_whole SinkFault r last why = absurd (no_out why)
+    ran_whole InputLimit r last why = let long = (r.events tells_source).2 in absurd (omega arith)
+    ran_whole NoMemory r last why = inl refl
+
+  -- the line was written
+  took_whole : (told line out_now : List ℕ) → TookLine rose_out told line out_now → out_now ≡ told ++ line
+  took_whole told line out_now took = ⊎_elim (λ (h : out_now ≡ told ++ line). h) (λ (h : rose_out × TookFront told line out_now). absurd (no_out h.0)) took
+
+  pub served_completes : (out_now : List ℕ) (status : Status) → Why status → Served disk clock source sink rose_out moment before now input rest out out_now status → Completes moment before.seen input out out_now status
+  served_completes out_now status why served = ⊎_elim
+      (λ (none : NotOpened disk source sink before now input rest out served.told status). inl (never_opened status none.opening why))
+      (λ (o : Opened disk clock source sink moment before now input rest out served.told status). inr (o.entries, o.stood tells_disk, o.legal,
+          λ fits. ran_whole o.entries served.told out_now fits status o.ran (took_whole served.told (last_line status) out_now (served.last tells_sink)) why))
+      served.came

@@ -1,0 +1,228 @@
+-- How a run is ended within a stretch.
+use Rattle.std.proofs.Common.{◌≡◌, ◌⊎◌, inl, inr, ⊎_elim, ℕ, ◌+◌, ◌-◌, ◌<◌, ◌≤◌, max, cond, ◌||◌, Bool, true, false, List, [], ◌∷◌, ◌++◌, length, map, take, Option, Some, None, option_to_list, Result, Ok, Err, refl, sym, ap, subst, ◌∙◌, append_assoc, arith}
+use Rattle.std.specs.Prelude.{All}
+use Rattle.std.specs.List.{list_any}
+use Rattle.std.proofs.lemmas.List.{append-nil}
+use Rattle.std.proofs.lemmas.List.Elements.{All-cons, All-nil, All-weaker}
+use Rattle.cd_outside.specs.Disk.{DiskState, last_of, LeftAt}
+use Rattle.cd_outside.specs.Doubt.{Doubt, IsImage}
+use Rattle.cd_outside.specs.Moments.{Moments}
+use Rattle.cd_outside.proofs.Images.{settled_image}
+use Rattle.cd_outside.proofs.Runs.{doubt_now}
+use Rattle.cd_journal.specs.Bytes.{list_of}
+use Rattle.cd_entries.specs.declared.entry.Entry.{Entry}
+use Rattle.cd_input.specs.Input.{Event, upto_first}
+use Rattle.cd_turn.specs.Ends.{MayLeave, HasReason, TookAtEnd}
+use Rattle.cd_turn.specs.Home.{HomeState, IsHome, StandsFor, KeepsEntries}
+use Rattle.cd_turn.specs.Legal.{IsLegal}
+use Rattle.cd_turn.specs.Plain.{Command}
+use Rattle.cd_turn.specs.Reply.{reply_text}
+use Rattle.cd_turn.specs.Turn.{Turn, told_by, answer, added}
+use Rattle.cd_turn.specs.declared.status.Status.{Status}
+use Rattle.cd_turn.specs.declared.status.Status.TheVariants.{Done, Usage, Refused, Unfit, SourceFault, DiskFault, SinkFault, InputLimit, JournalFull, NoMemory}
+use Rattle.cd_cli.specs.declared.flow.Flow.{Flow}
+use Rattle.cd_cli.specs.declared.flow.Flow.TheVariants as flow
+use Rattle.cd_cli.specs.declared.flow.Last.{Last}
+use Rattle.cd_cli.specs.declared.flow.Last.TheVariants as last
+use Rattle.cd_cli.specs.Flow.{was_refused, last_in, ends_in, status_after}
+use Rattle.cd_cli.specs.Run.{ends_run, HasCause, IfBetween, Keeps, line_of}
+use Rattle.cd_cli.specs.Stretch.{Standing, standing, HaveTurned, Halted, Went, Closes, Finishes}
+use Rattle.cd_cli.proofs.Turning.{turned_none, turned_since}
+
+left_keeps : (fresh : Type 0) (entries : List Entry) (image : List ℕ) → MayLeave fresh entries image → Keeps entries image
+left_keeps fresh entries image left = ⊎_elim (λ (k : KeepsEntries entries image). inl k) (λ (n : fresh × (entries ≡ []) × (length image ≤ 9)). inr (n.1, n.2)) left
+
+-- what a crash may leave behind a run of calls
+pub keeps_behind : (before now : DiskState) (from : ℕ) (fresh : Type 0) (entries : List Entry) → Moments (LeftAt before) (LeftAt now) from (MayLeave fresh entries) → (image : List ℕ) → IsImage now.doubt image → Keeps entries image
+keeps_behind before now from fresh entries moments image left =
+    let beat = max (last_of now.calls) from + 1 in
+    let later : last_of now.calls < beat = omega arith in
+    let after : from < beat = omega arith in
+    left_keeps fresh entries image (moments.later beat image after (subst (λ (d : Doubt). IsImage d image) (sym (doubt_now now.doubt now.calls beat later)) left))
+
+-- a crash leaves a home that rests
+pub keeps_rest : (home : HomeState) (now : DiskState) → IsLegal home.entries → IsHome home now → (image : List ℕ) → IsImage now.doubt image → Keeps home.entries image
+keeps_rest home now legal is image left = inl (record {
+  list = home.entries;
+  stands = ap list_of (settled_image now.seen image (subst (λ (d : Doubt). IsImage d image) is.rests left)) ∙ is.list;
+  legal = legal;
+  extends = ([], sym (append-nil home.entries));
+})
+
+cause_of : (told disk sink : Type 0) (entries : List Entry) (turn : Turn) (refused : Bool) (status : Status) → HasReason told disk sink entries (added entries turn.now (told_by turn.event)) status → HasCause told entries (Some turn) refused status
+cause_of told disk sink entries turn refused Done why = absurd why
+cause_of told disk sink entries turn refused Usage why = why
+cause_of told disk sink entries turn refused Refused why = absurd why
+cause_of told disk sink entries turn refused (Unfit at) why = why
+cause_of told disk sink entries turn refused DiskFault why = why.1
+cause_of told disk sink entries turn refused (JournalFull len) why = why
+cause_of told disk sink entries turn refused SourceFault why = absurd why
+cause_of told disk sink entries turn refused SinkFault why = why.1
+cause_of told disk sink entries turn refused InputLimit why = absurd why
+cause_of told disk sink entries turn refused NoMemory why = why
+
+within_of : (told disk sink : Type 0) (entries : List Entry) (entry : Option Entry) (status : Status) → HasReason told disk sink entries entry status → IfBetween status ⊥
+within_of told disk sink entries entry Done why = why
+within_of told disk sink entries entry Usage why = tt
+within_of told disk sink entries entry Refused why = why
+within_of told disk sink entries entry (Unfit at) why = tt
+within_of told disk sink entries entry DiskFault why = tt
+within_of told disk sink entries entry (JournalFull len) why = tt
+within_of told disk sink entries entry SourceFault why = why
+within_of told disk sink entries entry SinkFault why = tt
+within_of told disk sink entries entry InputLimit why = why
+within_of told disk sink entries entry NoMemory why = tt
+
+-- a run that is ended within a stretch isn't ended between two turns
+pub between_cut : (P : Type 0) (status : Status) → IfBetween status ⊥ → IfBetween status P
+between_cut P Done h = absurd h
+between_cut P Usage h = tt
+between_cut P Refused h = absurd h
+between_cut P (Unfit at) h = tt
+between_cut P DiskFault h = tt
+between_cut P (JournalFull len) h = tt
+between_cut P SourceFault h = absurd h
+between_cut P SinkFault h = tt
+between_cut P InputLimit h = absurd h
+between_cut P NoMemory h = tt
+
+-- the run was ended within the turn of what came to its end
+pub halted_one : (told disk clock sink rose : Type 0) (moment : ℕ) (entries : List Entry) (out out_now : List ℕ) (was : Bool) (now : ℕ) (event : Event) (command : Option Command) (disk_now : DiskState) (status : Status)
+    → command ≡ told_by event → HasReason told disk rose entries (added entries now command) status → (sink → TookAtEnd status (reply_text (answer entries command)) out out_now)
+    → (clock → now ≡ moment) → (told → (image : List ℕ) → IsImage disk_now.doubt image → Keeps entries image)
+    → Halted told clock sink moment (standing entries out was) (event ∷ []) disk_now out_now status
+halted_one told disk clock sink rose moment entries out out_now was now event command disk_now status e why took at keeps =
+    let turn : Turn = record { now = now; event = event } in
+    record {
+      done = [];
+      middle = standing entries out was;
+      turned = turned_none told clock sink moment (standing entries out was);
+      quiet = refl;
+      begun = Some turn;
+      moment_is = λ t. All-cons (λ (turn : Turn). turn.now ≡ moment) turn [] (at t) (All-nil (λ (turn : Turn). turn.now ≡ moment));
+      more = [];
+      brought_is = refl;
+      cause = cause_of told disk rose entries turn was status (subst (λ (c : Option Command). HasReason told disk rose entries (added entries now c) status) e why);
+      took = λ t. subst (λ (c : Option Command). TookAtEnd status (reply_text (answer entries c)) out out_now) e (took t);
+      within = within_of told disk rose entries (added entries now command) status why;
+      keeps = keeps;
+    }
+
+-- memory ran out between two turns
+pub halted_none : (told clock sink : Type 0) (moment : ℕ) (entries : List Entry) (out : List ℕ) (was : Bool) (brought : List Event) (now : DiskState) → (told → (image : List ℕ) → IsImage now.doubt image → Keeps entries image)
+    → Halted told clock sink moment (standing entries out was) brought now out NoMemory
+halted_none told clock sink moment entries out was brought now keeps = record {
+  done = [];
+  middle = standing entries out was;
+  turned = turned_none told clock sink moment (standing entries out was);
+  quiet = refl;
+  begun = None;
+  moment_is = λ t. All-nil (λ (turn : Turn). turn.now ≡ moment);
+  more = brought;
+  brought_is = refl;
+  cause = tt;
+  took = λ t. refl;
+  within = tt;
+  keeps = keeps;
+}
+
+pub halted_since : (disk clock sink : Type 0) (moment first : ℕ) (before : Standing) (brought : List Event) (now : DiskState) (out : List ℕ) (status : Status) → (clock → moment ≡ first)
+    → Halted disk clock sink moment before brought now out status → Halted disk clock sink first before brought now out status
+halted_since disk clock sink moment first before brought now out status same h = record {
+  done = h.done;
+  middle = h.middle;
+  turned = turned_since disk clock sink moment first before h.middle h.done same h.turned;
+  quiet = h.quiet;
+  begun = h.begun;
+  moment_is = λ told. All-weaker (λ (turn : Turn). turn.now ≡ moment) (λ (turn : Turn). turn.now ≡ first) (λ turn e. e ∙ same told) (option_to_list h.begun) (h.moment_is told);
+  more = h.more;
+  brought_is = h.brought_is;
+  cause = h.cause;
+  took = h.took;
+  within = h.within;
+  keeps = h.keeps;
+}
+
+-- nothing came to its end
+pub went_none : (disk clock sink : Type 0) (moment : ℕ) (entries : List Entry) (out : List ℕ) (was : Last) (brought : List Event) → brought ≡ [] → Went disk clock sink moment (standing entries out (was_refused was)) brought entries out (flow.Goes was)
+went_none disk clock sink moment entries out was brought none =
+    subst (λ (es : List Event). Went disk clock sink moment (standing entries out (was_refused was)) es entries out (flow.Goes was)) (sym none)
+    (record { ends = refl; once = refl; turned = turned_none disk clock sink moment (standing entries out (was_refused was)) })
+
+-- a last turn was made
+pub closes_after : (disk clock sink : Type 0) (moment : ℕ) (before : Standing) (brought : List Event) (entries : List Entry) (now : DiskState) (out : List ℕ) (was : Last)
+    → HaveTurned disk clock sink moment before brought (standing entries out (was_refused was)) → Closes disk clock sink moment before brought entries now out (status_after was)
+closes_after disk clock sink moment before brought entries now out last.Done turned = turned
+closes_after disk clock sink moment before brought entries now out last.Refused turned = turned
+
+pub closes_halted : (disk clock sink : Type 0) (moment : ℕ) (before : Standing) (brought : List Event) (entries : List Entry) (now : DiskState) (out : List ℕ) (status : Status)
+    → Halted disk clock sink moment before brought now out status → Closes disk clock sink moment before brought entries now out status
+closes_halted disk clock sink moment before brought entries now out Done h = absurd h.within
+closes_halted disk clock sink moment before brought entries now out Usage h = h
+closes_halted disk clock sink moment before brought entries now out Refused h = absurd h.within
+closes_halted disk clock sink moment before brought entries now out (Unfit at) h = h
+closes_halted disk clock sink moment before brought entries now out DiskFault h = h
+closes_halted disk clock sink moment before brought entries now out (JournalFull len) h = h
+closes_halted disk clock sink moment before brought entries now out SourceFault h = h
+closes_halted disk clock sink moment before brought entries now out SinkFault h = h
+closes_halted disk clock sink moment before brought entries now out InputLimit h = h
+closes_halted disk clock sink moment before brought entries now out NoMemory h = h
+
+-- one event is done in any case
+pub once_single : (e : Event) → upto_first ends_run (e ∷ []) ≡ e ∷ []
+once_single e = by_test (ends_run e)
+  where
+    by_test : (t : Bool) → cond t (e ∷ []) (e ∷ []) ≡ e ∷ []
+    by_test true = refl
+    by_test false = refl
+
+pub between_any : (P : Type 0) (status : Status) → P → IfBetween status P
+between_any P Done h = h
+between_any P Usage h = tt
+between_any P Refused h = h
+between_any P (Unfit at) h = tt
+between_any P DiskFault h = tt
+between_any P (JournalFull len) h = tt
+between_any P SourceFault h = h
+between_any P SinkFault h = tt
+between_any P InputLimit h = h
+between_any P NoMemory h = tt
+
+-- what holds between two turns, and what follows from it
+pub between_both : (P Q R : Type 0) (status : Status) → (P → Q → R) → IfBetween status P → IfBetween status Q → IfBetween status R
+between_both P Q R Done step a b = step a b
+between_both P Q R Usage step a b = tt
+between_both P Q R Refused step a b = step a b
+between_both P Q R (Unfit at) step a b = tt
+between_both P Q R DiskFault step a b = tt
+between_both P Q R (JournalFull len) step a b = tt
+between_both P Q R SourceFault step a b = step a b
+between_both P Q R SinkFault step a b = tt
+between_both P Q R InputLimit step a b = step a b
+between_both P Q R NoMemory step a b = tt
+
+pub closes_since : (disk clock sink : Type 0) (moment first : ℕ) (before : Standing) (brought : List Event) (entries : List Entry) (now : DiskState) (out : List ℕ) (status : Status) → (clock → moment ≡ first)
+    → Closes disk clock sink moment before brought entries now out status → Closes disk clock sink first before brought entries now out status
+closes_since disk clock sink moment first before brought entries now out Done same h = turned_since disk clock sink moment first before (standing entries out false) brought same h
+closes_since disk clock sink moment first before brought entries now out Refused same h = turned_since disk clock sink moment first before (standing entries out true) brought same h
+closes_since disk clock sink moment first before brought entries now out Usage same h = halted_since disk clock sink moment first before brought now out Usage same h
+closes_since disk clock sink moment first before brought entries now out (Unfit at) same h = halted_since disk clock sink moment first before brought now out (Unfit at) same h
+closes_since disk clock sink moment first before brought entries now out DiskFault same h = halted_since disk clock sink moment first before brought now out DiskFault same h
+closes_since disk clock sink moment first before brought entries now out (JournalFull len) same h = halted_since disk clock sink moment first before brought now out (JournalFull len) same h
+closes_since disk clock sink moment first before brought entries now out SourceFault same h = halted_since disk clock sink moment first before brought now out SourceFault same h
+closes_since disk clock sink moment first before brought entries now out SinkFault same h = halted_since disk clock sink moment first before brought now out SinkFault same h
+closes_since disk clock sink moment first before brought entries now out InputLimit same h = halted_since disk clock sink moment first before brought now out InputLimit same h
+closes_since disk clock sink moment first before brought entries now out NoMemory same h = halted_since disk clock sink moment first before brought now out NoMemory same h
+
+pub finishes_since : (disk clock sink : Type 0) (moment first : ℕ) (before : Standing) (was : DiskState) (brought : List Event) (if_none : Status) (entries : List Entry) (now : DiskState) (out : List ℕ) (status : Status) → (clock → moment ≡ first)
+    → Finishes disk clock sink moment before was brought if_none entries now out status → Finishes disk clock sink first before was brought if_none entries now out status
+finishes_since disk clock sink moment first before was [] if_none entries now out status same h = h
+finishes_since disk clock sink moment first before was (e ∷ es) if_none entries now out status same h = closes_since disk clock sink moment first before (e ∷ es) entries now out status same h
+
+pub went_since : (disk clock sink : Type 0) (moment first : ℕ) (before : Standing) (brought : List Event) (entries : List Entry) (out : List ℕ) (flow : Flow) → (clock → moment ≡ first)
+    → Went disk clock sink moment before brought entries out flow → Went disk clock sink first before brought entries out flow
+went_since disk clock sink moment first before brought entries out flow same h = record {
+  ends = h.ends;
+  once = h.once;
+  turned = turned_since disk clock sink moment first before (standing entries out (was_refused (last_in flow))) brought same h.turned;
+}
