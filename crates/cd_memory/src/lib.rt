@@ -2,11 +2,14 @@
 //! Each has a steady form, which never fails within the room that was made for it.
 #![tactic(auto)]
 
+mod begun;
 mod clock;
 mod count;
 mod disk;
 mod fate;
 mod files;
+mod lines;
+mod spawner;
 mod reading;
 mod script;
 mod sink;
@@ -19,6 +22,8 @@ pub use cd_content::Generator;
 pub use clock::{MemoryClock, SteadyClock};
 pub use disk::MemoryDisk;
 pub use files::MemoryFiles;
+pub use lines::MemoryLines;
+pub use spawner::MemorySpawner;
 pub use script::FaultScript;
 pub use sink::{MemorySink, SteadySink};
 pub use source::{MemorySource, SteadySource};
