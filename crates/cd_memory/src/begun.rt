@@ -34,12 +34,7 @@ pub fn next_outcome(outcomes: &[Outcome], used: usize) -> Outcome
 }
 
 /// Keeps a command that was begun.
-pub fn keep(
-    alloc: Global,
-    begun: &mut Vec<Begun>,
-    command: &[u8],
-    way: Way,
-) -> Result<(), NoMemory>
+pub fn keep(alloc: Global, begun: &mut Vec<Begun>, command: &[u8], way: Way) -> Result<(), NoMemory>
     ensures kept { OnOk result (map child_of begun.new.items ≡ map child_of begun.old.items ++ child_by way command.now ∷ []) }
     ensures same { OnErr result (begun.new.items ≡ begun.old.items) }
 {

@@ -1,6 +1,7 @@
-ghost use Rattle.std.specs.Prelude.{◌≡◌, ◌≤◌, length, take};
+ghost use Rattle.std.specs.Prelude.{◌≡◌, ◌≤◌, ◌<◌, length, take, IfSome};
+ghost use Rattle.std.specs.List.{position_from};
 ghost use Rattle.cd_content.specs.Exchange.{traffic_in};
-ghost use Rattle.cd_content.specs.Pieces.{has_come, coming};
+ghost use Rattle.cd_content.specs.Pieces.{has_come, coming, is_left_of_session};
 
 use crate::FaultScript;
 use crate::count::failed;
@@ -215,21 +216,29 @@ fn has_come(exchange: &Exchange, after: Option<(u64, u64)>) -> bool
     }
 }
 
+// The place of a session's first piece that has bytes left.
+fn find(pieces: &[Piece], session: u64) -> Option<usize>
+    ensures place { result ≡ position_from (is_left_of_session session) 0 pieces.now }
+    ensures bound { IfSome result (λ i. i < length pieces.now) }
+{
+    pieces.iter().position(|piece| piece.is_left_of(session))
+}
+
 // Copies bytes of a session's first piece that has any left to the front of a buffer, if it has come, and takes them from
 // it; tells how many.
 fn give(pieces: &mut [Piece], exchange: &Exchange, session: u64, into: &mut [u8]) -> usize
     ensures within { result ≤ length into.old }
     ensures bytes { take result into.new ≡ take (length into.old) (coming (traffic_in exchange.now) pieces.old session) }
 {
-    for piece in pieces.iter_mut() {
-        if piece.is_left_of(session) {
-            if !has_come(exchange, piece.after()) {
-                return 0;
-            }
-            let count = piece.copy(into);
-            piece.take(count);
-            return count;
-        }
+    let i = match find(pieces, session) {
+        Some(i) => i,
+        None => return 0,
+    };
+    let piece = &mut pieces[i];
+    if !has_come(exchange, piece.after()) {
+        return 0;
     }
-    0
+    let count = piece.copy(into);
+    piece.take(count);
+    count
 }
