@@ -1,3 +1,4 @@
+mod Counted
 mod Doubtful
 mod Errs
 mod FileImages

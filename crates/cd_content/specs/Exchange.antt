@@ -1,5 +1,6 @@
 -- What an exchange shows.
-use Rattle.std.specs.Prelude.{ℕ, ◌≡◌, vec_len}
+use Rattle.std.specs.Prelude.{ℕ, ◌≡◌, ◌≤◌, ◌==◌, false, vec_len}
+use Rattle.cd_outside.specs.Counts.{next}
 use Rattle.cd_outside.specs.Lines.{Traffic}
 use Rattle.cd_content.specs.Sessions.{session_at, traffic_of}
 use Rattle.cd_content.specs.declared.exchange.Exchange.{Exchange}
@@ -26,5 +27,18 @@ pub record SameTraffic (old new : Exchange) : Type 0 where
 
 -- the counts are as they were
 pub record SameCounts (old new : Exchange) : Type 0 where
-  pub faults : faults_in new ≡ faults_in old
-  pub ends : ends_in new ≡ ends_in old
+  pub faults : (session : ℕ) → faults_in new session ≡ faults_in old session
+  pub ends : (session : ℕ) → ends_in new session ≡ ends_in old session
+
+-- a session's fault was counted, and nothing else
+pub record CountsFault (number : ℕ) (old new : Exchange) : Type 0 where
+  pub rose : faults_in new number ≡ next (faults_in old number)
+  pub faults : (session : ℕ) → faults_in old session ≤ faults_in new session
+  pub ends : (session : ℕ) → ends_in new session ≡ ends_in old session
+
+-- a session's end was counted, and nothing else
+pub record CountsEnd (number : ℕ) (old new : Exchange) : Type 0 where
+  pub rose : ends_in new number ≡ next (ends_in old number)
+  pub ends : (session : ℕ) → ends_in old session ≤ ends_in new session
+  pub others : (other : ℕ) → (number == other) ≡ false → ends_in new other ≡ ends_in old other
+  pub faults : (session : ℕ) → faults_in new session ≡ faults_in old session

@@ -12,9 +12,8 @@ pub struct Exchange {
 
 impl Exchange {
     ghost use Rattle.std.specs.Prelude.{◌≡◌, ◌≤◌, ◌+◌, IfOk, OnOk, OnErr};
-    ghost use Rattle.cd_outside.specs.Counts.{next};
-    ghost use Rattle.cd_outside.specs.Lines.{IsFresh, took, sent, put_at};
-    ghost use Rattle.cd_content.specs.Exchange.{traffic_in, last_in, faults_in, ends_in, SameTraffic, SameCounts};
+    ghost use Rattle.cd_outside.specs.Lines.{IsFresh, took, sent};
+    ghost use Rattle.cd_content.specs.Exchange.{traffic_in, last_in, SameTraffic, SameCounts, CountsFault, CountsEnd};
 
     /// No session.
     pub fn new(alloc: Global) -> Self
@@ -90,8 +89,7 @@ impl Exchange {
     pub fn fail(&mut self, number: u64)
         requires from { 1 ≤ number }
         requires to { number ≤ last_in self.old }
-        ensures faults { faults_in self.new ≡ put_at number (next (faults_in self.old number)) (faults_in self.old) }
-        ensures ends { ends_in self.new ≡ ends_in self.old }
+        ensures counts { CountsFault number self.old self.new }
         ensures same { SameTraffic self.old self.new }
     {
         let session = &mut self.sessions[(number - 1) as usize];
@@ -102,8 +100,7 @@ impl Exchange {
     pub fn end(&mut self, number: u64)
         requires from { 1 ≤ number }
         requires to { number ≤ last_in self.old }
-        ensures ends { ends_in self.new ≡ put_at number (next (ends_in self.old number)) (ends_in self.old) }
-        ensures faults { faults_in self.new ≡ faults_in self.old }
+        ensures counts { CountsEnd number self.old self.new }
         ensures same { SameTraffic self.old self.new }
     {
         let session = &mut self.sessions[(number - 1) as usize];

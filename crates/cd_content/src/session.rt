@@ -1,4 +1,4 @@
-ghost use Rattle.std.specs.Prelude.{◌≡◌, ◌++◌, OnOk, OnErr};
+ghost use Rattle.std.specs.Prelude.{◌≡◌, ◌≤◌, ◌++◌, OnOk, OnErr};
 ghost use Rattle.cd_outside.specs.Counts.{next};
 ghost use Rattle.cd_content.specs.Sessions.{fresh_session};
 
@@ -63,14 +63,16 @@ impl Session {
 
     /// Counts a fault.
     pub fn fail(&mut self)
-        ensures { self.new ≡ record self.old { faults = next self.old.faults } }
+        ensures count { self.new ≡ record self.old { faults = next self.old.faults } }
+        ensures later { self.old.faults ≤ self.new.faults }
     {
         self.faults = self.faults.saturating_add(1);
     }
 
     /// Counts an end.
     pub fn end(&mut self)
-        ensures { self.new ≡ record self.old { ends = next self.old.ends } }
+        ensures count { self.new ≡ record self.old { ends = next self.old.ends } }
+        ensures later { self.old.ends ≤ self.new.ends }
     {
         self.ends = self.ends.saturating_add(1);
     }

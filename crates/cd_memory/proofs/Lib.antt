@@ -1,1 +1,3 @@
-mod Begun
+mod Coming
+mod CutOff
+mod Front

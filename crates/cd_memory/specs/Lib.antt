@@ -1,5 +1,8 @@
+pub mod Children
 pub mod MemoryDisk
 pub mod MemoryFiles
+pub mod MemoryLines
+pub mod MemorySpawner
 pub mod MemoryStreams
 pub mod SteadyDisk
 pub mod SteadyStreams

@@ -2,15 +2,18 @@
 //! Each has a steady form, which never fails within the room that was made for it.
 #![tactic(auto)]
 
+mod begun;
 mod clock;
 mod count;
 mod disk;
 mod fate;
 mod files;
+mod lines;
 mod reading;
 mod script;
 mod sink;
 mod source;
+mod spawner;
 mod steady_disk;
 mod stop;
 mod tally;
@@ -19,15 +22,20 @@ pub use cd_content::Generator;
 pub use clock::{MemoryClock, SteadyClock};
 pub use disk::MemoryDisk;
 pub use files::MemoryFiles;
+pub use lines::MemoryLines;
 pub use script::FaultScript;
 pub use sink::{MemorySink, SteadySink};
 pub use source::{MemorySource, SteadySource};
+pub use spawner::MemorySpawner;
 pub use steady_disk::SteadyDisk;
 
 #[cfg(test)]
 mod tests {
     use super::*;
-    use cd_outside::{Beat, Clock, Disk, Files, Sink, Source, sync_now, write_through};
+    use cd_outside::{
+        Beat, Clock, ConnectFault, Disk, Files, Lines, Outcome, Sink, Source, Spawner, sync_now,
+        write_through,
+    };
     use cd_types::Moment;
     use std::test::Fail;
 
@@ -78,6 +86,53 @@ mod tests {
         assert_eq!(rt; files.get(b"a"), None);
         files.crash(0);
         assert_eq!(rt; files.get(b"a"), Some([251, 67, 3, 4].as_slice()));
+        Ok(())
+    }
+
+    // The first session gives its second piece only after the second session was given three bytes.
+    #[test]
+    fn lines_give_what_is_offered(rt: HostRuntime) -> Result<(), Fail> {
+        let alloc = rt.alloc();
+        let mut lines = MemoryLines::new(alloc, FaultScript::new(Vec::new(alloc)))?;
+        lines.offer(1, b"ab", None)?;
+        lines.offer(1, b"c", Some((2, 3)))?;
+        lines.incoming(2)?;
+        lines.listen(1364)?;
+        let one = lines.accept()?.ok_or("none waits")?;
+        let two = lines.accept()?.ok_or("none waits")?;
+        assert_eq!(rt; lines.accept()?, None);
+        let mut into = [0; 8];
+        assert_eq!(rt; lines.receive(one, &mut into)?, 2);
+        assert_eq!(rt; lines.receive(one, &mut into)?, 0);
+        lines.send(two, b"xyz")?;
+        assert_eq!(rt; lines.receive(one, &mut into)?, 1);
+        assert_eq!(rt; into[0], b'c');
+        lines.fail(1)?;
+        assert!(rt; lines.send(two, b"no").is_err());
+        assert_eq!(rt; lines.given(2), b"xyz".as_slice());
+        lines.close(two);
+        lines.refuse(true);
+        assert_eq!(rt; lines.connect(b"host", 1), Err(ConnectFault::Refused));
+        assert!(rt; !lines.starved());
+        Ok(())
+    }
+
+    #[test]
+    fn a_spawner_answers_what_was_set(rt: HostRuntime) -> Result<(), Fail> {
+        let alloc = rt.alloc();
+        let mut spawner = MemorySpawner::new(alloc, FaultScript::new(Vec::new(alloc)))?;
+        spawner.next_outcome(Outcome::Exit(4))?;
+        spawner.next_outcome(Outcome::Killed)?;
+        spawner.next_outcome(Outcome::Failed)?;
+        assert_eq!(rt; spawner.run(b"a"), Outcome::Exit(4));
+        spawner.start(b"b")?;
+        assert!(rt; spawner.start(b"c").is_err());
+        spawner.fail(1)?;
+        assert_eq!(rt; spawner.run(b"d"), Outcome::Failed);
+        assert_eq!(rt; spawner.run(b"e"), Outcome::Exit(0));
+        assert_eq!(rt; spawner.started(2), Some(b"e".as_slice()));
+        assert_eq!(rt; spawner.started(3), None);
+        assert!(rt; !spawner.starved());
         Ok(())
     }
 

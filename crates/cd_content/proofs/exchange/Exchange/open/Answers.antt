@@ -1,4 +1,5 @@
-use Rattle.std.proofs.Common.{ℕ}
+use Rattle.std.proofs.Common.{ap}
+use Rattle.cd_content.specs.Sessions.{SessionHeld}
 use Rattle.cd_content.proofs.Fresh.{one_more, same_traffic}
 use Rattle.cd_content.proofs.exchange.Exchange.open.Goals as goal
 
@@ -8,4 +9,4 @@ returns-clause-traffic c = same_traffic c.args.self.now.sessions.items c.push.ne
 pub returns-clause-counts : goal.returns-clause-counts
 returns-clause-counts c =
     let same = one_more c.args.self.now.sessions.items c.push.new.self.items c.new.result c.in_ok-push.ensures.items c.new.ensures in
-    record { faults = λ j session. (same session j).faults; ends = λ j session. (same session j).ends }
+    record { faults = λ session. ap (λ (s : SessionHeld). s.faults) (same session); ends = λ session. ap (λ (s : SessionHeld). s.ends) (same session) }

@@ -2,7 +2,7 @@ use Rattle.std.proofs.Common.{ℕ, ◌∙◌, ap}
 use Rattle.cd_outside.specs.Shelf.{CutFile}
 use Rattle.cd_outside.specs.Files.{files_did}
 use Rattle.cd_memory.specs.MemoryFiles.{state_of}
-use Rattle.cd_memory.proofs.Begun.{cut_begun, last_is, raised_is}
+use Rattle.cd_memory.proofs.CutOff.{cut_begun, last_is, raised_is}
 use Rattle.cd_memory.proofs.files.MemoryFilesFiles.cut.Goals as goal
 
 pub returns-in_default-fate-clause-cut_off : goal.returns-in_default-fate-clause-cut_off

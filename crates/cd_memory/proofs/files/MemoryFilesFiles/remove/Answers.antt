@@ -2,7 +2,7 @@ use Rattle.std.proofs.Common.{ℕ, ◌∙◌, ap}
 use Rattle.cd_outside.specs.Shelf.{RemoveFile}
 use Rattle.cd_outside.specs.Files.{files_did}
 use Rattle.cd_memory.specs.MemoryFiles.{state_of}
-use Rattle.cd_memory.proofs.Begun.{remove_begun, last_is, raised_is}
+use Rattle.cd_memory.proofs.CutOff.{remove_begun, last_is, raised_is}
 use Rattle.cd_memory.proofs.files.MemoryFilesFiles.remove.Goals as goal
 
 pub returns-in_default-fate-clause-cut_off : goal.returns-in_default-fate-clause-cut_off
