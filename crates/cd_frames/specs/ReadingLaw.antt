@@ -4,8 +4,8 @@ use Rattle.std.proofs.lemmas.List.{take_at}
 use Rattle.cd_frames.specs.Reading.{overwritten}
 
 -- what is written over bytes doesn't change their number
-pub length-overwritten : (bytes over : List ℕ) → length (overwritten bytes over) ≡ length bytes
-length-overwritten bytes over =
+pub length_overwritten : (bytes over : List ℕ) → length (overwritten bytes over) ≡ length bytes
+length_overwritten bytes over =
     omega (arith, length-take (length bytes) (over ++ drop (length over) bytes), length-append over (drop (length over) bytes), length-drop (length over) bytes)
 
 -- as many bytes written over them are all that is there
