@@ -1,13 +1,16 @@
 -- What an answer tells of the front, and what the frame at the front is once it was passed.
 use Rattle.std.proofs.Common.{◌≡◌, ℕ, ◌+◌, ◌-◌, ◌≤◌, Bool, true, false, cond, ltb, List, [], length, take, drop, Option, Some, None, refl, sym, ap, ◌∙◌, arith, length-take}
-use Rattle.std.specs.Prelude.{Result, Ok, Err}
+use Rattle.std.specs.Prelude.{Result, Ok, Err, IfSome, option_map}
 use Rattle.std.proofs.lemmas.List.{take-take, drop-take}
 use Rattle.cd_types.specs.Number.{number_in}
 use Rattle.cd_frames.specs.Buffer.{between, given_in}
-use Rattle.cd_frames.specs.Message.{Message}
+use Rattle.cd_frames.specs.Message.{Message, message_of}
 use Rattle.cd_frames.specs.Reading.{sized_answer_to}
 use Rattle.cd_frames.specs.Stream.{Front, gives, refuses, waits, front_of}
-use Rattle.cd_frames.specs.Frame.{message_in}
+use Rattle.cd_types.specs.Format.{IsBytes}
+use Rattle.cd_frames.specs.Frame.{body_bytes, message_in, IsFrame, IsMessage, IsWritable}
+use Rattle.cd_frames.specs.FrameLaw.{message_only, message_writable}
+use Rattle.cd_frames.specs.declared.frame.Frame.{Frame}
 use Rattle.cd_frames.specs.StreamLaw.{gives_only, number_after, number_front, number_there}
 use Rattle.cd_frames.specs.declared.frame.FrameFault.{FrameFault}
 
@@ -59,3 +62,22 @@ given_again place start end xs m size within e =
     let long : start + size - start ≡ size = omega arith in
     let inside : size ≤ end - start = omega (arith, length-take (end - start) (drop start xs)) in
     ap given_in (ap (λ n. take n (drop start xs)) long ∙ sym (take-take size (end - start) (drop start xs) inside)) ∙ front_again place (between start end xs) m size e
+
+-- what is read is a message, and its bytes are those
+pub read_form : (bytes : List ℕ) (found : Option Frame) → IsBytes bytes → option_map message_of found ≡ message_in bytes → IfSome found (λ frame. IsMessage (message_of frame))
+read_form bytes None fit e = tt
+read_form bytes (Some frame) fit e = (message_only bytes (message_of frame) fit (sym e)).1
+
+pub read_whole : (bytes : List ℕ) (found : Option Frame) → IsBytes bytes → option_map message_of found ≡ message_in bytes → IfSome found (λ frame. bytes ≡ body_bytes (message_of frame))
+read_whole bytes None fit e = tt
+read_whole bytes (Some frame) fit e = (message_only bytes (message_of frame) fit (sym e)).0
+
+-- a message of few bytes is a frame
+pub short_frame : (bytes : List ℕ) (found : Option Frame) → length bytes ≤ 131072 → IfSome found (λ frame. IsMessage (message_of frame)) → IfSome found (λ frame. bytes ≡ body_bytes (message_of frame))
+    → IfSome found (λ frame. IsFrame (message_of frame))
+short_frame bytes None short form whole = tt
+short_frame bytes (Some frame) short form whole = record { fields = form; short = omega (arith, ap length whole) }
+
+pub form_writable : (found : Option Frame) → IfSome found (λ frame. IsMessage (message_of frame)) → IfSome found (λ frame. IsWritable (message_of frame))
+form_writable None form = tt
+form_writable (Some frame) form = message_writable (message_of frame) form

@@ -9,9 +9,12 @@ use Rattle.cd_types.specs.CompoundLaw.{IsBytes-after}
 use Rattle.cd_types.specs.Number.{number_bytes, number_in}
 use Rattle.cd_types.specs.NumberLaw.{number_law}
 use Rattle.cd_types.specs.TextLaw.{bind_some, both_true}
-use Rattle.cd_frames.specs.Frame.{hello_fields, welcome_fields, reject_fields, step_copy_to_fields, step_copy_from_fields, step_task_fields, step_submit_fields, key_and_number, data_fields, result_fields, abort_fields, forget_fields, no_fields, IsMessage, code_of, fields_of, body_bytes, read_as, hello_of, welcome_of, reject_of, step_copy_to_of, step_copy_from_of, step_task_of, step_submit_of, ready_of, length_of, data_of, ack_of, end_of, result_of, abort_of, forget_of, bye_of, kinds, of_kind, message_in, is_command}
+use Rattle.cd_frames.specs.Frame.{hello_fields, welcome_fields, reject_fields, step_copy_to_fields, step_copy_from_fields, step_task_fields, step_submit_fields, key_and_number, data_fields, result_fields, abort_fields, forget_fields, no_fields, IsMessage, code_of, fields_of, body_bytes, read_as, hello_of, welcome_of, reject_of, step_copy_to_of, step_copy_from_of, step_task_of, step_submit_of, ready_of, length_of, data_of, ack_of, end_of, result_of, abort_of, forget_of, bye_of, kinds, of_kind, message_in, is_command, IsWritable}
 use Rattle.cd_frames.specs.Message as message
 use Rattle.cd_frames.specs.Message.{Message}
+use Rattle.cd_frames.specs.Reject.{IsSent, IsSendable}
+use Rattle.cd_frames.specs.declared.frame.RejectCause.{RejectCause}
+use Rattle.cd_frames.specs.declared.frame.RejectCause.TheVariants as reject
 use Rattle.cd_frames.specs.Whole.{Whole}
 
 some_same : {A : Type 0} (x y : A) → Some x ≡ Some y → x ≡ y
@@ -176,3 +179,29 @@ pub command_is_text : (command : List ℕ) → IsTrue (is_command command) → I
 command_is_text command form =
     let tests = both_true (leb 1 (length command)) (leb (length command) 32768) form in
     lt-ltb (length command) 4294967296 (omega (arith, leb-true _ _ tests.1))
+
+-- what has a spelling can be written
+pub sent_sendable : (why : RejectCause) → IsSent why → IsSendable why
+sent_sendable (reject.VersionUnknown version) form = tt
+sent_sendable (reject.SameHome home) form = tt
+sent_sendable (reject.UnknownNode nodes) form = tt
+sent_sendable (reject.Busy sessions) form = tt
+sent_sendable (reject.OtherName name) form = form
+
+pub message_writable : (m : Message) → IsMessage m → IsWritable m
+message_writable (message.Hello greeting) form = form.1.1.1
+message_writable (message.Welcome greeting) form = form.1.1
+message_writable (message.Reject why) form = sent_sendable why form
+message_writable (message.StepCopyTo step name end interval size) form = (form.0.1.1.1, form.1.0)
+message_writable (message.StepCopyFrom step name interval) form = (form.0.1.1.1, form.1.0)
+message_writable (message.StepTask step kind command) form = (form.0.1.1.1, form.1.1.1)
+message_writable (message.StepSubmit step name snode prty symbols) form = (form.0.0.1.1.1, form.0.1.0, form.1)
+message_writable (message.Ready step offset) form = form.0.1.1.1
+message_writable (message.Length step size) form = form.0.1.1.1
+message_writable (message.Data step offset bytes) form = (form.0.0.1.1.1, form.1)
+message_writable (message.Ack step offset) form = form.0.1.1.1
+message_writable (message.End step size) form = form.0.1.1.1
+message_writable (message.Result step ended) form = (form.0.1.1.1, form.1.1.0.1)
+message_writable (message.Abort step why) form = (form.0.1.1.1, form.1.1)
+message_writable (message.Forget home number) form = tt
+message_writable message.Bye form = tt

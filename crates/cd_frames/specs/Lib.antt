@@ -4,6 +4,7 @@ pub mod FrameLaw
 pub mod FramesLaw
 pub mod Message
 pub mod Reading
+pub mod ReadingLaw
 pub mod Reject
 pub mod Run
 pub mod RunLaw

@@ -37,6 +37,7 @@ stands_stepped stream given r stands = by_front (front r) refl
       each = stands.each;
       place = place ∙ stands.place;
     })
+
     by_front : (f : Front) → front r ≡ f → Stands stream (given ++ given_by f) (gone_past r f)
     by_front (gives m size) is =
         let found = front_is r.place r.rest m size (rest_fits stream given r stands) is in

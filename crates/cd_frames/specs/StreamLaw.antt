@@ -100,6 +100,7 @@ gives_same m n a b e = (ap said e, ap counted e)
     said (gives x size) = x
     said (refuses why) = m
     said waits = m
+
     counted : Front → ℕ
     counted (gives x size) = size
     counted (refuses why) = 0
@@ -162,8 +163,7 @@ front_is place bytes m size fit e =
     let behind : drop size bytes ≡ drop given.len given.rest =
     ap (λ n. drop n bytes) given.size_is ∙ sym (drop-drop given.len 4 bytes) ∙ ap (drop given.len) (number_after 4 bytes given.len given.rest given.number) in
     let parts : given.rest ≡ body_bytes m ++ drop size bytes = sym (take-append-drop given.len given.rest) ∙ (λ i. message.0 i ++ sym behind i) in
-    let whole : bytes ≡ number_bytes 4 (length (body_bytes m)) ++ (body_bytes m ++ drop size bytes) = number.0 ∙ (λ i. number_bytes 4 (len_is i) ++ parts i) in
-    (
+    let whole : bytes ≡ number_bytes 4 (length (body_bytes m)) ++ (body_bytes m ++ drop size bytes) = number.0 ∙ (λ i. number_bytes 4 (len_is i) ++ parts i) in (
       whole ∙ sym (append_assoc (number_bytes 4 (length (body_bytes m))) (body_bytes m) (drop size bytes)),
       given.size_is ∙ ap (λ n. 4 + n) len_is ∙ sym (frame_long m),
       record { fields = message.1; short = omega (arith, len_is, given.short) },
@@ -188,10 +188,10 @@ unfolding told
 told_told a n = elim (cases_lt a 18446744073709551615) [
   | inl below ↦ ap (λ (k : ℕ). min (k + n) 18446744073709551615) (min-eq_left (let le : a ≤ 18446744073709551615 = omega arith in le))
   | inr above ↦ (
-    let first : min a 18446744073709551615 ≡ 18446744073709551615 = min-eq_right (let le : 18446744073709551615 ≤ a = omega arith in le) in
-    let left : min (18446744073709551615 + n) 18446744073709551615 ≡ 18446744073709551615 = min-eq_right (let le : 18446744073709551615 ≤ 18446744073709551615 + n = omega arith in le) in
-    let right : min (a + n) 18446744073709551615 ≡ 18446744073709551615 = min-eq_right (let le : 18446744073709551615 ≤ a + n = omega arith in le) in
-    ap (λ (k : ℕ). min (k + n) 18446744073709551615) first ∙ left ∙ sym right)
+      let first : min a 18446744073709551615 ≡ 18446744073709551615 = min-eq_right (let le : 18446744073709551615 ≤ a = omega arith in le) in
+      let left : min (18446744073709551615 + n) 18446744073709551615 ≡ 18446744073709551615 = min-eq_right (let le : 18446744073709551615 ≤ 18446744073709551615 + n = omega arith in le) in
+      let right : min (a + n) 18446744073709551615 ≡ 18446744073709551615 = min-eq_right (let le : 18446744073709551615 ≤ a + n = omega arith in le) in
+      ap (λ (k : ℕ). min (k + n) 18446744073709551615) first ∙ left ∙ sym right)
 ]
 
 -- what stands at the front doesn't depend on how often the place was told
@@ -201,9 +201,11 @@ front_told place bytes = by_number (number_in 4 bytes)
   where
     once : told (told place) ≡ told place
     once = ap told (sym (add-zero (told place))) ∙ told_told place 0 ∙ ap told (add-zero place)
+
     by_message : (size : ℕ) (found : Option Message) → judged (told place) size found ≡ judged place size found
     by_message size None = ap (λ (p : ℕ). refuses (fault.Bad p)) once
     by_message size (Some m) = refl
+
     by_number : (found : Option (ℕ × List ℕ)) → behind_length (told place) found ≡ behind_length place found
     by_number None = refl
     by_number (Some found) =

@@ -9,9 +9,11 @@ mod reader;
 mod reading;
 mod room;
 mod symbols;
+#[cfg(test)]
+mod tests;
 mod writing;
 
 pub use frame::{Frame, FrameFault, Hello, RejectCause, Welcome};
-pub use law::law_of_frames;
+pub use law::{law_of_frames, law_of_readers, law_of_streams};
 pub use reader::Reader;
 pub use writing::write_frame;

@@ -1,5 +1,6 @@
 //! The next frame of a stream.
 ghost use Rattle.std.specs.Prelude.{◌≡◌, ◌≤◌, length, option_map, IfOk, IfSome};
+ghost use Rattle.cd_frames.specs.Frame.{IsFrame, IsWritable};
 ghost use Rattle.cd_frames.specs.Message.{message_of};
 ghost use Rattle.cd_frames.specs.Reading.{after_step, answer_of, front, next_answer, sized_answer_of, sized_answer_to, step_answer};
 ghost use Rattle.cd_frames.specs.Stream.{front_of};
@@ -17,7 +18,7 @@ const LONGEST: u32 = 131_072;
 #[tactic(auto, unfolding(crate::specs::Stream::front_of, crate::specs::Stream::told))]
 fn front_of(place: u64, bytes: &[u8]) -> Result<Option<(Frame<'_>, usize)>, FrameFault>
     ensures found { sized_answer_of result ≡ sized_answer_to (front_of place bytes.now) }
-    ensures within { IfOk result (λ front. IfSome front (λ found. found.1 ≤ length bytes.now)) }
+    ensures within { IfOk result (λ front. IfSome front (λ found. (found.1 ≤ length bytes.now) × (found.1 ≤ 131076))) }
 {
     let Some((len, rest)) = u32::front(bytes) else {
         return Ok(None);
@@ -42,7 +43,9 @@ impl Reader {
     /// place in the stream at which that frame begins (the greatest number for places beyond). After a fault every call answers the same.
     /// It is `step`, and then `frame`. Where a proof has to know the reader behind it, call those.
     pub fn next(&mut self) -> Result<Option<Frame<'_>>, FrameFault>
-        ensures { answer_of result ≡ next_answer (front self.old) }
+        ensures answer { answer_of result ≡ next_answer (front self.old) }
+        ensures form { IfOk result (λ found. IfSome found (λ frame. IsFrame (message_of frame))) }
+        ensures writable { IfOk result (λ found. IfSome found (λ frame. IsWritable (message_of frame))) }
     {
         match self.step() {
             Ok(true) => Ok(self.frame()),
@@ -71,7 +74,9 @@ impl Reader {
     /// The frame that was passed last, lent from the buffer; `None` where none was, or `room` was called after it.
     #[tactic(auto, unfolding(crate::specs::Buffer::given_in))]
     pub fn frame(&self) -> Option<Frame<'_>>
-        ensures { option_map message_of result ≡ self.now.given }
+        ensures given { option_map message_of result ≡ self.now.given }
+        ensures form { IfSome result (λ frame. IsFrame (message_of frame)) }
+        ensures writable { IfSome result (λ frame. IsWritable (message_of frame)) }
     {
         let (_, body) = u32::front(&self.buffer[self.last..self.start])?;
         frame_of(body)

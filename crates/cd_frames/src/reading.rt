@@ -1,6 +1,6 @@
 //! Reading: the fields of each kind, which have to be all of the bytes behind a frame's length.
-ghost use Rattle.std.specs.Prelude.{◌≡◌, option_map};
-ghost use Rattle.cd_frames.specs.Frame.{is_abort, is_block, is_command, is_piece, message_in, hello_of, welcome_of, reject_of, step_copy_to_of, step_copy_from_of, step_task_of, step_submit_of, ready_of, length_of, data_of, ack_of, end_of, result_of, abort_of, forget_of, bye_of, key_and_number};
+ghost use Rattle.std.specs.Prelude.{◌≡◌, option_map, IfSome};
+ghost use Rattle.cd_frames.specs.Frame.{body_bytes, is_abort, is_block, is_command, is_piece, message_in, IsMessage, hello_of, welcome_of, reject_of, step_copy_to_of, step_copy_from_of, step_task_of, step_submit_of, ready_of, length_of, data_of, ack_of, end_of, result_of, abort_of, forget_of, bye_of, key_and_number};
 ghost use Rattle.cd_frames.specs.Message.{message_of};
 ghost use Rattle.cd_frames.specs.Reject.{reject_in};
 ghost use Rattle.cd_types.specs.Text.{ranged_in};
@@ -13,8 +13,16 @@ use cd_types::{
 };
 
 /// The frame that the bytes behind a length are, all of them; `None` exactly where they are none.
-#[tactic(auto, unfolding(crate::specs::Frame::message_in))]
 pub(crate) fn frame_of(bytes: &[u8]) -> Option<Frame<'_>>
+    ensures frame { option_map message_of result ≡ message_in bytes.now }
+    ensures form { IfSome result (λ frame. IsMessage (message_of frame)) }
+    ensures whole { IfSome result (λ frame. bytes.now ≡ body_bytes (message_of frame)) }
+{
+    frame_by_kind(bytes)
+}
+
+#[tactic(auto, unfolding(crate::specs::Frame::message_in))]
+fn frame_by_kind(bytes: &[u8]) -> Option<Frame<'_>>
     ensures { option_map message_of result ≡ message_in bytes.now }
 {
     let (code, rest) = u8::front(bytes)?;
