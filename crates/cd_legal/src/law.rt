@@ -5,6 +5,7 @@ ghost use Rattle.cd_types.specs.declared.rows.Outcomes.{Outcomes};
 ghost use Rattle.cd_types.specs.declared.rows.Receiving.{Receiving};
 ghost use Rattle.cd_entries.specs.declared.entry.Entry.{Entry};
 ghost use Rattle.cd_entries.specs.declared.entry.Entry.TheVariants as entry;
+ghost use Rattle.cd_status.specs.Openings.{open_on};
 ghost use Rattle.cd_status.specs.Processes.{Submission, submission, submitted};
 ghost use Rattle.cd_status.specs.Status.{Open, status, outcome};
 ghost use Rattle.cd_legal.specs.Steps.{Reading, runs_itself};
@@ -40,4 +41,15 @@ pub fn law_of_numbers()
 pub fn law_of_placings()
     ensures { (read : Reading) → HavePriorities read → (journal : List Entry) (n : ℕ) (placed : Placing)
         → is_legal read journal ≡ true → placing journal n ≡ Some placed → WellPlaced (runs_itself journal n) placed }
+{}
+
+/// What a legal journal says of the files that are being received. A step whose file is being received has the
+/// receiving that is open on that file, so each file has one at most; and what is open on a file is of a step whose
+/// file is being received.
+pub fn law_of_openings()
+    ensures of_step { (read : Reading) (journal : List Entry) (key : Key) (r : Receiving) (safe : ℕ)
+        → is_legal read journal ≡ true → status journal key ≡ Open r safe → (r.key ≡ key) × (open_on journal r.name ≡ Some r) }
+    ensures of_file { (read : Reading) (journal : List Entry) (name : List ℕ) (r : Receiving)
+        → is_legal read journal ≡ true → open_on journal name ≡ Some r
+        → (r.name ≡ name) × ((safe : ℕ) × (status journal r.key ≡ Open r safe)) }
 {}

@@ -3,4 +3,4 @@
 
 mod law;
 
-pub use law::{law_of_numbers, law_of_outcomes, law_of_placings};
+pub use law::{law_of_numbers, law_of_openings, law_of_outcomes, law_of_placings};

@@ -66,10 +66,10 @@ retry_own node now (Some n) = retry node now n (placing node.journal n)
 abbrev pub close : Node → ℕ → Phase → List Deed
 close node now phase = retry_own node now (own_number phase) ++ Go Gone [] ∷ []
 
--- a file couldn't be asked or changed: the partner is told, and the step is tried again later
+-- a file couldn't be asked or changed: the partner is told, and then the session is lost
 abbrev pub trouble_for : Option Key → List Message
 trouble_for None = []
 trouble_for (Some key) = message.Abort key cause.Trouble ∷ []
 
 abbrev pub trouble : Node → ℕ → Phase → List Deed
-trouble node now phase = retry_own node now (own_number phase) ++ Go Gone (trouble_for (key_under_way phase)) ∷ []
+trouble node now phase = Go phase (trouble_for (key_under_way phase)) ∷ close node now phase

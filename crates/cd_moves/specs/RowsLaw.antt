@@ -14,7 +14,7 @@ use Rattle.cd_legal.specs.Legal.{allowed, is_legal, is_empty, may_place, is_reas
 use Rattle.cd_legal.specs.PlacingsLaw.{well_placed}
 use Rattle.cd_legal.specs.Promises.{HavePriorities, WellPlaced}
 use Rattle.cd_legal.specs.Steps.{Reading, runs_itself}
-use Rattle.cd_moves.specs.Closing.{own_number, key_under_way, is_running, waits_for, retry, retry_own, close, trouble, trouble_for}
+use Rattle.cd_moves.specs.Closing.{own_number, key_under_way, is_running, waits_for, retry, retry_own, close, trouble}
 use Rattle.cd_moves.specs.Node.{Phase, Gone, Node, Deed, Keep, Touch, AskSize, AskBytes, Give, Go, recorded, did, does, Answers}
 use Rattle.cd_moves.specs.Rows.{are_allowed, checked, row_in, row, row_end, row_trouble, is_dead, is_detached}
 use Rattle.cd_moves.specs.Promises.{StaysLegal}
@@ -131,7 +131,7 @@ module _ (node : Node) (priorities : HavePriorities node.config.read) (legal : i
   close_fits phase = end_fits (own_number phase) []
 
   trouble_fits : (phase : Phase) → are_allowed node.config.read node.journal (trouble node now phase) ≡ true
-  trouble_fits phase = end_fits (own_number phase) (trouble_for (key_under_way phase))
+  trouble_fits phase = close_fits phase
 
 -- either of two rows whose entries may follow
 checked_fits : (node : Node) (deeds otherwise : List Deed) → are_allowed node.config.read node.journal otherwise ≡ true
