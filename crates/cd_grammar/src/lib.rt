@@ -7,6 +7,8 @@ mod mark;
 mod reading;
 mod starts;
 mod step;
+#[cfg(test)]
+mod tests;
 mod token;
 mod values;
 mod words;
