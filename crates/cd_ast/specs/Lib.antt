@@ -1,4 +1,5 @@
 pub mod Bytes
+pub mod Canonical
 pub mod Defaults
 pub mod Laws
 pub mod Pieces

@@ -1,0 +1,10 @@
+pub mod Words
+pub mod Tokens
+pub mod Answers
+pub mod Values
+pub mod Starts
+pub mod Given
+pub mod Reading
+pub mod Grammar
+pub mod Later
+pub mod Faults
