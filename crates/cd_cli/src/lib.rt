@@ -8,6 +8,3 @@ mod telling;
 
 pub use cd_turn::Status;
 pub use run::run_node;
-
-#[cfg(test)]
-mod tests;
