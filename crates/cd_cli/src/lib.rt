@@ -14,6 +14,3 @@ mod words;
 
 pub use run::run_node;
 pub use status::Status;
-
-#[cfg(test)]
-mod tests;

@@ -1,0 +1,268 @@
+//! Whole runs: what they write, how they end, and what they leave on the disk.
+use crate::machine::Machine;
+use crate::worked::{FIRST, INIT, JOURNAL, NAMED, SUBMIT};
+use cd_cli::{Status, run_node};
+use cd_memory::{
+    FaultScript, MemorySink, MemorySource, SteadyClock, SteadyDisk, SteadySink, SteadySource,
+};
+use cd_outside::Beat;
+use cd_types::Moment;
+use std::test::Fail;
+
+#[test]
+fn the_first_commands(rt: HostRuntime) -> Result<(), Fail> {
+    assert_eq!(rt; NAMED.len(), 29);
+    assert_eq!(rt; JOURNAL.len(), 202);
+    let mut machine = Machine::new(rt.alloc(), b"")?;
+    let ran = machine.run(INIT)?;
+    assert_eq!(rt; ran.out.bytes(), b"HOME ALPHA 17\n".as_slice());
+    assert_eq!(rt; ran.status.code(), 0);
+    assert_eq!(rt; machine.bytes(), NAMED);
+    let mut machine = Machine::new(rt.alloc(), b"")?;
+    let ran = machine.run(FIRST)?;
+    assert_eq!(rt;
+        ran.out.bytes(),
+        b"HOME ALPHA 17\nPROCESS 1 SUBMITTED\nSTOPPED\n".as_slice()
+    );
+    assert_eq!(rt; ran.status, Status::Done);
+    assert_eq!(rt; ran.status.code(), 0);
+    assert_eq!(rt; machine.bytes(), JOURNAL);
+    Ok(())
+}
+
+// The same over devices that never fail within their room.
+#[test]
+fn the_first_commands_on_steady_devices(rt: HostRuntime) -> Result<(), Fail> {
+    let alloc = rt.alloc();
+    let mut disk = SteadyDisk::new(alloc)?;
+    disk.room(20, 1000)?;
+    let mut clock = SteadyClock::new(alloc)?;
+    clock.set(Moment::new(1_709_287_200).ok_or("no moment")?);
+    let mut input = SteadySource::new(alloc)?;
+    input.room(2, 200)?;
+    input.feed(FIRST)?;
+    let mut out = SteadySink::new(alloc)?;
+    out.room(4, 100)?;
+    let mut beat = Beat::new();
+    let status = run_node(
+        alloc,
+        &[],
+        &mut disk,
+        &mut clock,
+        &mut input,
+        &mut out,
+        &mut beat,
+    );
+    assert_eq!(rt; status, Status::Done);
+    assert_eq!(rt;
+        out.bytes(),
+        b"HOME ALPHA 17\nPROCESS 1 SUBMITTED\nSTOPPED\n".as_slice()
+    );
+    assert_eq!(rt; disk.bytes(), JOURNAL);
+    Ok(())
+}
+
+#[test]
+fn a_home_that_has_a_name(rt: HostRuntime) -> Result<(), Fail> {
+    let mut machine = Machine::new(rt.alloc(), JOURNAL)?;
+    let named = machine.run(b"init name=BETA home=1;")?;
+    assert_eq!(rt; named.out.bytes(), b"REFUSED ALREADYHOME\n".as_slice());
+    assert_eq!(rt; named.status, Status::Refused);
+    assert_eq!(rt; named.status.code(), 2);
+    assert_eq!(rt; machine.bytes(), JOURNAL);
+    let next = machine.run(SUBMIT)?;
+    assert_eq!(rt; next.out.bytes(), b"PROCESS 2 SUBMITTED\n".as_slice());
+    assert_eq!(rt; next.status, Status::Done);
+    assert_eq!(rt; machine.bytes().len(), 375);
+    Ok(())
+}
+
+/// Commands on a home without a name, the lines that answer them, and the exit status.
+const ANSWERS: [(&[u8], &[u8], u8); 24] = [
+    (b"", b"", 0),
+    (b" \t\r\n/* none */\n* none\n", b"", 0),
+    (b"stop;", b"STOPPED\n", 0),
+    (b"stop; foo;", b"STOPPED\n", 0),
+    (b"foo; stop;", b"REFUSED NOTYET\nSTOPPED\n", 0),
+    (b"foo;", b"REFUSED NOTYET\n", 2),
+    (b";", b"REFUSED NOTYET\n", 2),
+    (b"Stop;", b"REFUSED NOTYET\n", 2),
+    (b"stop", b"REFUSED NOTYET\n", 2),
+    (b"/* stop;", b"REFUSED NOTYET\n", 2),
+    (b"/* ; */stop;", b"STOPPED\n", 0),
+    (b"* ;\nstop;", b"STOPPED\n", 0),
+    (b"'a;b'; stop;", b"REFUSED NOTYET\nSTOPPED\n", 0),
+    (b"\"a;b\"; stop;", b"REFUSED NOTYET\nSTOPPED\n", 0),
+    (b"a'b;c", b"REFUSED NOTYET\n", 2),
+    (
+        b"submit P1 PROCESS SNODE=BETA\nS1 COPY FROM (FILE=a.txt) TO (FILE=b.txt)\nPEND;",
+        b"REFUSED NOTHOME\n",
+        2,
+    ),
+    (
+        b"init name=A home=9223372036854775808;",
+        b"HOME A 9223372036854775808\n",
+        0,
+    ),
+    (b"init name=A home=0000000000000000001;", b"HOME A 1\n", 0),
+    (
+        b"init name=A home=00000000000000000001;",
+        b"REFUSED NOTYET\n",
+        2,
+    ),
+    (b"init name=A home=;", b"REFUSED NOTYET\n", 2),
+    (b"init home=1 name=A;", b"REFUSED NOTYET\n", 2),
+    (
+        b"init name=ABCDEFGHIJKLMNOPQ home=1;",
+        b"REFUSED NOTYET\n",
+        2,
+    ),
+    (
+        b"init name=ABCDEFGHIJKLMNOP\r\n\thome=1;",
+        b"HOME ABCDEFGHIJKLMNOP 1\n",
+        0,
+    ),
+    (
+        b"init name=A home=1; init name=A home=1;",
+        b"HOME A 1\nREFUSED ALREADYHOME\n",
+        2,
+    ),
+];
+
+/// Submissions on a home with a name that aren't of the one form: they are refused, and change nothing.
+const OTHERS: [&[u8]; 14] = [
+    b"submit;",
+    b"submit p1 PROCESS SNODE=BETA S1 COPY FROM (FILE=a) TO (FILE=b) PEND;",
+    b"submit P1 process SNODE=BETA S1 COPY FROM (FILE=a) TO (FILE=b) PEND;",
+    b"submit COPY PROCESS SNODE=BETA S1 COPY FROM (FILE=a) TO (FILE=b) PEND;",
+    b"submit LONGLABEL PROCESS SNODE=BETA S1 COPY FROM (FILE=a) TO (FILE=b) PEND;",
+    b"submit P1 PROCESS SNODE= S1 COPY FROM (FILE=a) TO (FILE=b) PEND;",
+    b"submit P1 PROCESS S1 COPY FROM (FILE=a) TO (FILE=b) PEND;",
+    b"submit P1 PROCESS SNODE=BETA 1S COPY FROM (FILE=a) TO (FILE=b) PEND;",
+    b"submit P1 PROCESS SNODE=BETA S1 COPY FROM (FILE=journal) TO (FILE=b) PEND;",
+    b"submit P1 PROCESS SNODE=BETA S1 COPY FROM (FILE=a) TO (FILE=cfg/b) PEND;",
+    b"submit P1 PROCESS SNODE=BETA S1 COPY FROM (FILE=a-b) TO (FILE=b) PEND;",
+    b"submit P1 PROCESS SNODE=BETA S1 COPY FROM (FILE=) TO (FILE=b) PEND;",
+    b"submit P1 PROCESS SNODE=BETA S1 COPY FROM (FILE=a) TO (FILE=b) CKPT=1K PEND;",
+    b"submit P1 PROCESS SNODE=BETA S1 COPY FROM (FILE=a) TO (FILE=b) PEND PEND;",
+];
+
+#[test]
+fn commands_and_their_answers(rt: HostRuntime) -> Result<(), Fail> {
+    for (commands, lines, status) in ANSWERS {
+        let mut machine = Machine::new(rt.alloc(), b"")?;
+        let ran = machine.run(commands)?;
+        assert_eq!(rt; ran.out.bytes(), lines, "{commands:?}");
+        assert_eq!(rt; ran.status.code(), status, "{commands:?}");
+    }
+    for command in OTHERS {
+        let mut machine = Machine::new(rt.alloc(), NAMED)?;
+        let ran = machine.run(command)?;
+        assert_eq!(rt;
+            ran.out.bytes(),
+            b"REFUSED NOTYET\n".as_slice(),
+            "{command:?}"
+        );
+        assert_eq!(rt; ran.status.code(), 2);
+        assert_eq!(rt; machine.bytes(), NAMED);
+    }
+    Ok(())
+}
+
+/// Journals that aren't fit, with the first place.
+const UNFIT: [(&[u8], &[u8]); 6] = [
+    // No entry begins with the byte 238.
+    (
+        b"CDNODE01\x01\0\0\0\x0f\x01\x05ALPHA\0\0\0\0\0\0\0\x11\x01\0\0\0\x01\xee\0",
+        b"UNFIT 33\n",
+    ),
+    // The body passes the end.
+    (
+        b"CDNODE01\x01\0\0\0\x0f\x01\x05ALPHA\0\0\0\0\0\0\0\x11\x01\0\0\0\x02\xee",
+        b"UNFIT 29\n",
+    ),
+    // The last gate is missing.
+    (
+        b"CDNODE01\x01\0\0\0\x0f\x01\x05ALPHA\0\0\0\0\0\0\0\x11",
+        b"UNFIT 28\n",
+    ),
+    // A home whose name has no bytes, and one that is named twice.
+    (
+        b"CDNODE01\x01\0\0\0\x0a\x01\0\0\0\0\0\0\0\0\x11\0",
+        b"UNFIT 13\n",
+    ),
+    (
+        b"CDNODE01\x01\0\0\0\x0f\x01\x05ALPHA\0\0\0\0\0\0\0\x11\x01\0\0\0\x0f\x01\x05ALPHA\0\0\0\0\0\0\0\x11\0",
+        b"UNFIT 33\n",
+    ),
+    (b"CDNODE02", b"UNFIT 7\n"),
+];
+
+#[test]
+fn a_journal_that_is_not_fit(rt: HostRuntime) -> Result<(), Fail> {
+    for (bytes, line) in UNFIT {
+        let mut machine = Machine::new(rt.alloc(), bytes)?;
+        let ran = machine.run(SUBMIT)?;
+        assert_eq!(rt; ran.out.bytes(), line);
+        assert_eq!(rt; ran.status.code(), 6);
+        assert_eq!(rt; machine.bytes(), bytes);
+    }
+    Ok(())
+}
+
+#[test]
+fn a_word_is_not_taken(rt: HostRuntime) -> Result<(), Fail> {
+    let none = FaultScript::new(Vec::new(rt.alloc()));
+    let mut input = MemorySource::new(rt.alloc(), none)?;
+    input.feed(INIT)?;
+    let none = FaultScript::new(Vec::new(rt.alloc()));
+    let mut out = MemorySink::new(rt.alloc(), none)?;
+    let mut machine = Machine::new(rt.alloc(), b"")?;
+    let status = machine.serve(&["--echo"], &mut input, &mut out)?;
+    assert_eq!(rt; status, Status::Usage);
+    assert_eq!(rt; status.code(), 1);
+    assert_eq!(rt;
+        out.bytes(),
+        b"USAGE cdnode [--echo] [--max-turns N]\n".as_slice()
+    );
+    assert_eq!(rt; machine.bytes(), b"".as_slice());
+    Ok(())
+}
+
+// The first read gives all commands, and the second one fails: they were done.
+#[test]
+fn the_input_fails(rt: HostRuntime) -> Result<(), Fail> {
+    let second = FaultScript::new(Vec::from_slice(rt.alloc(), &[2])?);
+    let mut input = MemorySource::new(rt.alloc(), second)?;
+    input.feed(INIT)?;
+    input.feed(SUBMIT)?;
+    let none = FaultScript::new(Vec::new(rt.alloc()));
+    let mut out = MemorySink::new(rt.alloc(), none)?;
+    let mut machine = Machine::new(rt.alloc(), b"")?;
+    let status = machine.serve(&[], &mut input, &mut out)?;
+    assert_eq!(rt; status, Status::SourceFault);
+    assert_eq!(rt; status.code(), 9);
+    assert_eq!(rt;
+        out.bytes(),
+        b"HOME ALPHA 17\nPROCESS 1 SUBMITTED\nINPUT FAULT\n".as_slice()
+    );
+    assert_eq!(rt; machine.bytes(), JOURNAL);
+    Ok(())
+}
+
+// The second line fails: it was to acknowledge the submission, which is kept.
+#[test]
+fn the_output_fails(rt: HostRuntime) -> Result<(), Fail> {
+    let none = FaultScript::new(Vec::new(rt.alloc()));
+    let mut input = MemorySource::new(rt.alloc(), none)?;
+    input.feed(FIRST)?;
+    let second = FaultScript::new(Vec::from_slice(rt.alloc(), &[2])?);
+    let mut out = MemorySink::new(rt.alloc(), second)?;
+    let mut machine = Machine::new(rt.alloc(), b"")?;
+    let status = machine.serve(&[], &mut input, &mut out)?;
+    assert_eq!(rt; status, Status::SinkFault);
+    assert_eq!(rt; status.code(), 10);
+    assert_eq!(rt; out.bytes(), b"HOME ALPHA 17\n".as_slice());
+    assert_eq!(rt; machine.bytes(), JOURNAL);
+    Ok(())
+}
