@@ -4,9 +4,10 @@
 # crates/cd_speed.
 set -e
 here=$(cd "$(dirname "$0")" && pwd)
-place=$(mktemp -d ./bench.XXXXXX)
+place=$(mktemp -d "$PWD/bench.XXXXXX")
 trap 'rm -rf "$place"' EXIT
 cd "$place"
+export PYTHONDONTWRITEBYTECODE=1
 for what in submissions opening tokens; do
     echo "== $what"
     python3 "$here/$what.py"
