@@ -84,6 +84,31 @@ fn cards(rt: HostRuntime) -> Result<(), Fail> {
 }
 
 #[test]
+fn small_fields(rt: HostRuntime) -> Result<(), Fail> {
+    let name = NodeName::new(b"ALPHA").ok_or("no name")?;
+    let label = Label::new(b"p1").ok_or("no label")?;
+    let number = ProcNo::new(99_999).ok_or("no number")?;
+    let moment = Moment::new(1_709_287_200).ok_or("no moment")?;
+    let mut bytes = Vec::new(rt.alloc());
+    name.write(&mut bytes)?;
+    label.write(&mut bytes)?;
+    number.write(&mut bytes)?;
+    moment.write(&mut bytes)?;
+    assert_eq!(rt;
+        bytes.as_slice(),
+        b"\x05ALPHA\x02P1\0\x01\x86\x9f\0\0\0\0\x65\xe1\xa7\x20".as_slice()
+    );
+    assert_eq!(rt; NodeName::read(&bytes), Some((name, 6)));
+    assert_eq!(rt; Label::read(b"\x02P1"), Some((label, 3)));
+    assert_eq!(rt; ProcNo::read(b"\0\x01\x86\x9f"), Some((number, 4)));
+    assert_eq!(rt;
+        Moment::read(b"\0\0\0\0\x65\xe1\xa7\x20"),
+        Some((moment, 8))
+    );
+    Ok(())
+}
+
+#[test]
 fn names(rt: HostRuntime) {
     for (text, want) in [
         (b"s1".as_slice(), Some(b"S1".as_slice())),
