@@ -1,0 +1,7 @@
+//! Sending a file: its pieces, one after another, each sent on the acknowledgement of the one before.
+#![tactic(auto)]
+
+mod cut;
+mod sender;
+
+pub use sender::{Piece, SendFault, Sender};
