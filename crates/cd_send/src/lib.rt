@@ -3,5 +3,7 @@
 
 mod cut;
 mod sender;
+#[cfg(test)]
+mod tests;
 
 pub use sender::{Piece, SendFault, Sender};
