@@ -44,12 +44,12 @@ code_elsewhere (step ∷ codes) last place apart =
 -- A walk that has stopped.
 
 module _ (stmts : List Stmt) (codes : List (ℕ × ℕ)) where
-  path-stopped : (more : List Stmt) (here place : ℕ) → path_from stmts codes more here (Stopped place) ≡ []
+  pub path-stopped : (more : List Stmt) (here place : ℕ) → path_from stmts codes more here (Stopped place) ≡ []
   unfolding path_from
   path-stopped [] here place = refl
   path-stopped (s ∷ more) here place = path-stopped more (here + 1) place
 
-  pending-stopped : (more : List Stmt) (here place : ℕ) → pending_from stmts codes more here (Stopped place) ≡ place
+  pub pending-stopped : (more : List Stmt) (here place : ℕ) → pending_from stmts codes more here (Stopped place) ≡ place
   unfolding pending_from
   pending-stopped [] here place = refl
   pending-stopped (s ∷ more) here place = pending-stopped more (here + 1) place

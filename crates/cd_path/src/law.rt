@@ -1,10 +1,12 @@
 ghost use Rattle.std.specs.Prelude.{◌≡◌, ℕ, List, [], ◌∷◌, true};
 ghost use Rattle.cd_entries.specs.declared.entry.Entry.{Entry};
 ghost use Rattle.cd_ast.specs.Walk.{path, pending};
+ghost use Rattle.cd_ast.specs.declared.process.Stmt.{Stmt};
 ghost use Rattle.cd_status.specs.Processes.{ended};
 ghost use Rattle.cd_legal.specs.Legal.{is_legal};
 ghost use Rattle.cd_legal.specs.Steps.{Reading, stmts_of};
 ghost use Rattle.cd_path.specs.Conditions.{AllLookBack};
+ghost use Rattle.cd_path.specs.SingleSteps.{LeadDown, Walks};
 ghost use Rattle.cd_path.specs.Worked.{worked};
 
 /// In a legal journal the steps of each Process that ended, with their codes and in their order, are the path that
@@ -12,6 +14,13 @@ ghost use Rattle.cd_path.specs.Worked.{worked};
 pub fn law_of_steps()
     ensures { (read : Reading) → AllLookBack read → (journal : List Entry) (n : ℕ) → is_legal read journal ≡ true
         → ended journal n ≡ path (stmts_of read journal n) (ended journal n) }
+{}
+
+/// Where every jump leads further down, the path and the place that comes next are those of the walk by single steps:
+/// from place to place, as the statements say, until an action without a code or the end.
+pub fn law_of_walks()
+    ensures { (stmts : List Stmt) (codes : List (ℕ × ℕ)) → LeadDown stmts codes
+        → Walks stmts codes 0 (path stmts codes) (pending stmts codes) }
 {}
 
 /// The walk of one Process with conditions and jumps, worked by hand. Where S1 ends with 0, S3 and S4 follow; where

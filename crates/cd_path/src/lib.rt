@@ -3,4 +3,4 @@
 
 mod law;
 
-pub use law::{law_of_steps, worked_walk};
+pub use law::{law_of_steps, law_of_walks, worked_walk};

@@ -25,24 +25,24 @@ module _ (len block interval start offset : ℕ) (some : 1 ≤ block) (from : st
       let up_to_block : end ≤ offset + block = omega arith in
       let bounds : (ltb start end && leb end len) ≡ true = and_from (ltb start end) (leb end len) (lt-ltb start end (omega (arith, further, from))) (le-leb end len no_longer) in
       let full : end ≡ offset + block → eqb ((end - counted_from interval start end) % block) 0 ≡ true =
-          λ is.
-          let from_s : end - counted_from interval start end ≡ (offset - s) + block = ap (λ (c : ℕ). end - c) (counted end further up_to_next no_longer) ∙ omega (arith, is, early) in
-          eq-eqb _ 0 (ap (λ (n : ℕ). n % block) from_s ∙ add-mod_right (offset - s) block ∙ rest) in
+      λ is.
+      let from_s : end - counted_from interval start end ≡ (offset - s) + block = ap (λ (c : ℕ). end - c) (counted end further up_to_next no_longer) ∙ omega (arith, is, early) in
+      eq-eqb _ 0 (ap (λ (n : ℕ). n % block) from_s ∙ add-mod_right (offset - s) block ∙ rest) in
       let at_next : end ≡ next → (eqb end len || (ltb 0 interval && eqb (end % interval) 0)) ≡ true =
-          λ is. elim multiple [
-            inl last ↦ or_left (eqb end len) _ (eq-eqb end len (is ∙ last))
-          | inr divides ↦ or_right (eqb end len) (ltb 0 interval && eqb (end % interval) 0) (subst (λ (n : ℕ). (ltb 0 interval && eqb (n % interval) 0) ≡ true) (sym is) divides)
-          ] in
+      λ is. elim multiple [
+        | inl last ↦ or_left (eqb end len) _ (eq-eqb end len (is ∙ last))
+        | inr divides ↦ or_right (eqb end len) (ltb 0 interval && eqb (end % interval) 0) (subst (λ (n : ℕ). (ltb 0 interval && eqb (n % interval) 0) ≡ true) (sym is) divides)
+      ] in
       let ends : (eqb end len || (ltb 0 interval && eqb (end % interval) 0) || eqb ((end - counted_from interval start end) % block) 0) ≡ true =
-          elim (cases_eq end len) [
-            inl last ↦ or_left _ _ (or_left _ _ (eq-eqb end len last))
-          | inr before ↦ elim (cases_eq end next) [
-              inl is ↦ or_left _ _ (at_next is)
-            | inr not_next ↦
-                let is : end ≡ offset + block = omega (arith, before, not_next) in
-                or_right _ _ (full is)
-            ]
-          ] in
+      elim (cases_eq end len) [
+        | inl last ↦ or_left _ _ (or_left _ _ (eq-eqb end len last))
+        | inr before ↦ elim (cases_eq end next) [
+          | inl is ↦ or_left _ _ (at_next is)
+          | inr not_next ↦
+              let is : end ≡ offset + block = omega (arith, before, not_next) in
+              or_right _ _ (full is)
+        ]
+      ] in
       record {
         further = further;
         cut = and_from _ _ bounds ends;
@@ -53,9 +53,9 @@ module _ (len block interval start offset : ℕ) (some : 1 ≤ block) (from : st
             let blocks : ℕ = (offset - s) / block in
             let whole : (offset - s) / block * block + (offset - s) % block ≡ offset - s = div-add-mod' (offset - s) block in
             let from_s : place - counted_from interval start place ≡ blocks * block + (place - offset) =
-                ap (λ (c : ℕ). place - c) (counted place behind (omega (arith, before, up_to_next)) (omega (arith, short))) ∙ omega (arith, whole, rest, early, behind) in
+            ap (λ (c : ℕ). place - c) (counted place behind (omega (arith, before, up_to_next)) (omega (arith, short))) ∙ omega (arith, whole, rest, early, behind) in
             let rest_is : (place - counted_from interval start place) % block ≡ place - offset =
-                ap (λ (n : ℕ). n % block) from_s ∙ mod-mul-add blocks block (place - offset) (omega (arith, before, up_to_block, behind)) in
+            ap (λ (n : ℕ). n % block) from_s ∙ mod-mul-add blocks block (place - offset) (omega (arith, before, up_to_block, behind)) in
             let not_full : eqb ((place - counted_from interval start place) % block) 0 ≡ false = ne_eqb _ 0 (λ is. omega (arith, rest_is, is, behind)) in
             and_right _ _ (or_from _ _ (or_from _ _ not_last not_multiple) not_full);
       }
@@ -67,11 +67,11 @@ module _ (len block interval start offset : ℕ) (some : 1 ≤ block) (from : st
   reached_parts (inr cut) =
       let parts = and_parts (ltb start offset && leb offset len) (eqb offset len || (ltb 0 interval && eqb (offset % interval) 0) || eqb ((offset - counted_from interval start offset) % block) 0) cut in
       elim (or_cases (eqb offset len || (ltb 0 interval && eqb (offset % interval) 0)) (eqb ((offset - counted_from interval start offset) % block) 0) parts.1) [
-        inl first ↦ elim (or_cases (eqb offset len) (ltb 0 interval && eqb (offset % interval) 0) first) [
-            inl last ↦ absurd (omega (arith, eqb-true offset len last, within))
+        | inl first ↦ elim (or_cases (eqb offset len) (ltb 0 interval && eqb (offset % interval) 0) first) [
+          | inl last ↦ absurd (omega (arith, eqb-true offset len last, within))
           | inr divides ↦ inr (inl divides)
-          ]
-      | inr full ↦ inr (inr (eqb-true _ 0 full))
+        ]
+        | inr full ↦ inr (inr (eqb-true _ 0 full))
       ]
 
   -- without marks
@@ -81,13 +81,13 @@ module _ (len block interval start offset : ℕ) (some : 1 ≤ block) (from : st
       let counted : (place : ℕ) → counted_from interval start place ≡ start = λ place. cond-true (eqb interval 0) start _ is_none in
       let never : (place : ℕ) → (ltb 0 interval && eqb (place % interval) 0) ≡ false = λ place. subst (λ (k : ℕ). (ltb 0 k && eqb (place % k) 0) ≡ false) (sym none) refl in
       let rest : (offset - start) % block ≡ 0 =
-          elim (reached_parts reached) [
-            inl is ↦ let nothing : offset - start ≡ 0 = omega (arith, is) in ap (λ (n : ℕ). n % block) nothing ∙ no_rest block some
-          | inr more ↦ elim more [
-              inl divides ↦ absurd (false≢true (sym (never offset) ∙ divides))
-            | inr full ↦ sym (ap (λ (c : ℕ). (offset - c) % block) (counted offset)) ∙ full
-            ]
-          ] in
+      elim (reached_parts reached) [
+        | inl is ↦ let nothing : offset - start ≡ 0 = omega (arith, is) in ap (λ (n : ℕ). n % block) nothing ∙ no_rest block some
+        | inr more ↦ elim more [
+          | inl divides ↦ absurd (false≢true (sym (never offset) ∙ divides))
+          | inr full ↦ sym (ap (λ (c : ℕ). (offset - c) % block) (counted offset)) ∙ full
+        ]
+      ] in
       let next_is : next_multiple len interval offset ≡ len = cond-true (eqb interval 0) len _ is_none in
       subst (λ (next : ℕ). IsNextCut len block interval start offset (min (min (offset + block) next) len)) (sym next_is)
       (by_parts start len from rest within (λ place behind upto short. counted place) (λ place behind before short. never place) (inl refl))
@@ -103,39 +103,39 @@ module _ (len block interval start offset : ℕ) (some : 1 ≤ block) (from : st
       let next : ℕ = (q + 1) * interval in
       let next_at : next ≡ q * interval + interval = omega arith in
       let same_front : (n : ℕ) → q * interval ≤ n → n < q * interval + interval → n / interval ≡ q =
-          λ n low high.
-          let split : n ≡ q * interval + (n - q * interval) = omega (arith, low) in
-          ap (λ (m : ℕ). m / interval) split ∙ div-mul-add q interval (n - q * interval) (omega (arith, low, high)) in
+      λ n low high.
+      let split : n ≡ q * interval + (n - q * interval) = omega (arith, low) in
+      ap (λ (m : ℕ). m / interval) split ∙ div-mul-add q interval (n - q * interval) (omega (arith, low, high)) in
       let counted : (place : ℕ) → q * interval < place → place ≤ q * interval + interval → counted_from interval start place ≡ max start (q * interval) =
-          λ place low high.
-          cond-false (eqb interval 0) start (max start ((place - 1) / interval * interval)) is_some
-          ∙ ap (λ (n : ℕ). max start (n * interval)) (same_front (place - 1) (omega (arith, low)) (omega (arith, high, low))) in
+      λ place low high.
+      cond-false (eqb interval 0) start (max start ((place - 1) / interval * interval)) is_some
+      ∙ ap (λ (n : ℕ). max start (n * interval)) (same_front (place - 1) (omega (arith, low)) (omega (arith, high, low))) in
       let s : ℕ = max start (q * interval) in
       let early : s ≤ offset = omega (arith, from, whole) in
       let at_multiple : r ≡ 0 → (offset - s) % block ≡ 0 =
-          λ is. let nothing : offset - s ≡ 0 = omega (arith, is, whole, from) in ap (λ (n : ℕ). n % block) nothing ∙ no_rest block some in
+      λ is. let nothing : offset - s ≡ 0 = omega (arith, is, whole, from) in ap (λ (n : ℕ). n % block) nothing ∙ no_rest block some in
       let rest : (offset - s) % block ≡ 0 =
-          elim (reached_parts reached) [
-            inl is ↦ let nothing : offset - s ≡ 0 = omega (arith, is) in ap (λ (n : ℕ). n % block) nothing ∙ no_rest block some
-          | inr more ↦ elim more [
-              inl divides ↦ at_multiple (eqb-true (offset % interval) 0 (and_parts (ltb 0 interval) (eqb (offset % interval) 0) divides).1)
-            | inr full ↦ elim (cases_eq r 0) [
-                inl is ↦ at_multiple is
-              | inr inside ↦
-                  let low : q * interval < offset = omega (arith, whole, inside) in
-                  sym (ap (λ (c : ℕ). (offset - c) % block) (counted offset low (omega (arith, whole, small)))) ∙ full
-              ]
-            ]
-          ] in
+      elim (reached_parts reached) [
+        | inl is ↦ let nothing : offset - s ≡ 0 = omega (arith, is) in ap (λ (n : ℕ). n % block) nothing ∙ no_rest block some
+        | inr more ↦ elim more [
+          | inl divides ↦ at_multiple (eqb-true (offset % interval) 0 (and_parts (ltb 0 interval) (eqb (offset % interval) 0) divides).1)
+          | inr full ↦ elim (cases_eq r 0) [
+            | inl is ↦ at_multiple is
+            | inr inside ↦
+                let low : q * interval < offset = omega (arith, whole, inside) in
+                sym (ap (λ (c : ℕ). (offset - c) % block) (counted offset low (omega (arith, whole, small)))) ∙ full
+          ]
+        ]
+      ] in
       let ahead : offset < next = omega (arith, next_at, whole, small) in
       let apart : (place : ℕ) → offset < place → place < next → place < len → (ltb 0 interval && eqb (place % interval) 0) ≡ false =
-          λ place behind before short.
-          let split : place ≡ q * interval + (place - q * interval) = omega (arith, whole, behind) in
-          let left : place % interval ≡ place - q * interval =
-              ap (λ (m : ℕ). m % interval) split ∙ mod-mul-add q interval (place - q * interval) (omega (arith, next_at, before, whole, behind)) in
-          and_right (ltb 0 interval) _ (ne_eqb (place % interval) 0 (λ is. omega (arith, left, is, whole, behind))) in
+      λ place behind before short.
+      let split : place ≡ q * interval + (place - q * interval) = omega (arith, whole, behind) in
+      let left : place % interval ≡ place - q * interval =
+      ap (λ (m : ℕ). m % interval) split ∙ mod-mul-add q interval (place - q * interval) (omega (arith, next_at, before, whole, behind)) in
+      and_right (ltb 0 interval) _ (ne_eqb (place % interval) 0 (λ is. omega (arith, left, is, whole, behind))) in
       let multiple : (ltb 0 interval && eqb (next % interval) 0) ≡ true =
-          and_from (ltb 0 interval) (eqb (next % interval) 0) (lt-ltb 0 interval has) (eq-eqb (next % interval) 0 (mul-mod_left (q + 1) interval)) in
+      and_from (ltb 0 interval) (eqb (next % interval) 0) (lt-ltb 0 interval has) (eq-eqb (next % interval) 0 (mul-mod_left (q + 1) interval)) in
       let next_is : next_multiple len interval offset ≡ next = cond-false (eqb interval 0) len next is_some in
       subst (λ (n : ℕ). IsNextCut len block interval start offset (min (min (offset + block) n) len)) (sym next_is)
       (by_parts s next early rest ahead (λ place behind upto short. counted place (omega (arith, whole, behind)) (omega (arith, next_at, upto))) apart (inr multiple))
@@ -144,6 +144,6 @@ pub piece_end-next_cut : (len block interval start offset : ℕ) → 1 ≤ block
     → IsNextCut len block interval start offset (piece_end len block interval offset)
 piece_end-next_cut len block interval start offset some from within reached =
     elim (cases_eq interval 0) [
-      inl none ↦ without len block interval start offset some from within none reached
-    | inr has ↦ with_marks len block interval start offset some from within (omega (arith, has)) reached
+      | inl none ↦ without len block interval start offset some from within none reached
+      | inr has ↦ with_marks len block interval start offset some from within (omega (arith, has)) reached
     ]
