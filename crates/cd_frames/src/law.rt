@@ -30,8 +30,8 @@ pub fn law_of_streams()
     ensures joined { (messages : List Message) → All IsFrame messages → frames_of (joined messages) ≡ (messages, None) }
 {}
 
-/// After any calls of `room`, `filled` and `step` (or `next`), in any order, what was given begins the list of the stream's frames.
-/// Where the reader waits, all were given and no fault stands next; where it refuses, all were given and that fault stands next.
+/// After any calls of `room`, `filled` and `step`, in any order, what was passed begins the list of the stream's frames.
+/// Where the reader waits, all were passed and no fault stands next; where it refuses, all were passed and that fault stands next.
 pub fn law_of_readers()
     ensures given { (stream : List ℕ) (given : List Message) (reader : Reading) → Run stream given reader
         → (more : List Message) × ((frames_of stream).0 ≡ given ++ more) }
