@@ -1,5 +1,5 @@
 -- A part of a buffer that grows, or is cut at its front, and a buffer that is written behind it.
-use Rattle.std.proofs.Common.{◌≡◌, ℕ, ◌+◌, ◌-◌, ◌≤◌, List, length, take, drop, ◌++◌, ap, ◌∙◌, arith, sym, refl, length-append, length-drop, length-take}
+use Rattle.std.proofs.Common.{◌≡◌, ℕ, ◌+◌, ◌-◌, ◌≤◌, List, length, take, drop, ◌++◌, ap, ◌∙◌, arith, sym, length-append, length-drop, length-take}
 use Rattle.std.proofs.lemmas.List.{drop-take, drop-drop, take-take, take-append-le, drop_at, take_at}
 use Rattle.std.proofs.lemmas.Slice.{between_is}
 use Rattle.std.proofs.Math.Seq.{take-add}

@@ -1,6 +1,6 @@
 -- What an answer tells of the front, and what the frame at the front is once it was passed.
-use Rattle.std.proofs.Common.{◌≡◌, ℕ, ◌+◌, ◌-◌, ◌≤◌, Bool, true, false, cond, ltb, List, [], length, take, drop, Option, Some, None, refl, sym, ap, ◌∙◌, arith, length-take}
-use Rattle.std.specs.Prelude.{Result, Ok, Err, IfSome, option_map}
+use Rattle.std.proofs.Common.{◌≡◌, ℕ, ◌+◌, ◌-◌, ◌≤◌, List, [], length, take, drop, Option, Some, None, refl, sym, ap, ◌∙◌, arith, length-take}
+use Rattle.std.specs.Prelude.{Ok, Err, IfSome, option_map}
 use Rattle.std.proofs.lemmas.List.{take-take, drop-take}
 use Rattle.cd_types.specs.Number.{number_in}
 use Rattle.cd_frames.specs.Buffer.{between, given_in}

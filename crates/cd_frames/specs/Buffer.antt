@@ -1,5 +1,5 @@
 -- How a reader keeps its bytes: in one buffer, the frame that was passed last, the rest behind it, and the free part behind that.
-use Rattle.std.specs.Prelude.{◌≡◌, ℕ, ◌+◌, ◌-◌, ◌≤◌, List, length, take, drop, vec_len, Option}
+use Rattle.std.specs.Prelude.{◌≡◌, ℕ, ◌+◌, ◌-◌, ◌≤◌, List, take, drop, vec_len, Option}
 use Rattle.cd_types.specs.Format.{◌>>=◌}
 use Rattle.cd_types.specs.Number.{number_in}
 use Rattle.cd_frames.specs.Frame.{message_in}

@@ -18,7 +18,6 @@ use Rattle.cd_types.specs.declared.key.Key.{Key}
 use Rattle.cd_types.specs.declared.rows.Outcomes.{Outcomes}
 use Rattle.cd_frames.specs.declared.frame.Hello.{Hello}
 use Rattle.cd_frames.specs.declared.frame.RejectCause.{RejectCause}
-use Rattle.cd_frames.specs.declared.frame.RejectCause.TheVariants as reject
 use Rattle.cd_frames.specs.declared.frame.Welcome.{Welcome}
 use Rattle.cd_frames.specs.Message as message
 use Rattle.cd_frames.specs.Message.{Message}

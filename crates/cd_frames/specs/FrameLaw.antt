@@ -1,7 +1,7 @@
 -- The law of messages: what is spelled is read, and nothing else is.
 use Rattle.std.proofs.Common.{◌≡◌, ℕ, ◌<◌, Bool, true, false, cond, List, [], ◌∷◌, ◌++◌, Option, Some, refl, sym, ap, subst, ◌∙◌, arith}
 use Rattle.std.specs.Prelude.{◌==◌, length, IsTrue}
-use Rattle.std.proofs.Common.{leb, ltb}
+use Rattle.std.proofs.Common.{leb}
 use Rattle.std.proofs.lemmas.Bool.{eqb-true, leb-true, lt-ltb}
 use Rattle.cd_types.specs.FileName.{is_text}
 use Rattle.cd_types.specs.Format.{IsBytes}

@@ -1,5 +1,5 @@
 -- What a reader of a stream of frames is, between its calls.
-use Rattle.std.specs.Prelude.{◌≡◌, ℕ, Bool, true, false, ◌+◌, List, ◌++◌, length, take, drop, Option, Some, None, Result, Ok, Err}
+use Rattle.std.specs.Prelude.{ℕ, Bool, true, false, ◌+◌, List, ◌++◌, length, take, drop, Option, Some, None, Result, Ok, Err}
 use Rattle.cd_frames.specs.Message.{Message, message_of}
 use Rattle.cd_frames.specs.Stream.{Front, gives, refuses, waits, front_of, told}
 use Rattle.cd_frames.specs.declared.frame.Frame.{Frame}

@@ -1,5 +1,5 @@
 -- What a caller of a reader finds in its free part.
-use Rattle.std.proofs.Common.{◌≡◌, ℕ, ◌+◌, ◌≤◌, List, length, take, drop, ◌++◌, ap, ◌∙◌, arith, length-append, length-drop, length-take}
+use Rattle.std.proofs.Common.{◌≡◌, ℕ, List, length, drop, ◌++◌, arith, length-append, length-drop, length-take}
 use Rattle.std.proofs.lemmas.List.{take_at}
 use Rattle.cd_frames.specs.Reading.{overwritten}
 

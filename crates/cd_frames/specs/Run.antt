@@ -1,5 +1,5 @@
 -- Calls of one reader, in any number and order.
-use Rattle.std.specs.Prelude.{◌≡◌, ℕ, ◌≤◌, List, [], ◌∷◌, ◌++◌, length, take, All}
+use Rattle.std.specs.Prelude.{◌≡◌, ℕ, List, [], ◌∷◌, ◌++◌, length, take, All}
 use Rattle.cd_types.specs.Format.{IsBytes}
 use Rattle.cd_frames.specs.Frame.{IsFrame}
 use Rattle.cd_frames.specs.Message.{Message}

@@ -1,7 +1,5 @@
 -- The law of a reader: what it gave is the front of the stream's frames, and it waits where they were all given.
-use Rattle.std.proofs.Common.{◌≡◌, ℕ, zero, suc, ◌+◌, ◌<◌, ◌≤◌, List, [], ◌∷◌, ◌++◌, length, take, drop, Option, Some, None, refl, sym, ap, subst, ◌∙◌, inl, inr, arith, append_assoc, length-append, add-zero}
-use Rattle.std.specs.Prelude.{All}
-use Rattle.std.proofs.lemmas.Bool.{cases_lt}
+use Rattle.std.proofs.Common.{◌≡◌, ℕ, zero, suc, ◌+◌, List, [], ◌∷◌, ◌++◌, length, take, drop, refl, sym, ap, subst, ◌∙◌, arith, append_assoc, length-append}
 use Rattle.std.proofs.lemmas.Grind.{flat_map-append}
 use Rattle.std.proofs.lemmas.List.{append-nil}
 use Rattle.std.proofs.lemmas.List.Elements.{All-append, All-cons, All-nil}
@@ -10,11 +8,10 @@ use Rattle.cd_types.specs.Format.{IsBytes}
 use Rattle.cd_frames.specs.Frame.{frame_bytes, IsFrame}
 use Rattle.cd_frames.specs.FramesLaw.{frames_are, frames_begin, none_is_longest, GivesNone}
 use Rattle.cd_frames.specs.Message.{Message}
-use Rattle.cd_frames.specs.Reading.{Reading, with_free, with_filled, front, gone_past, after_step}
+use Rattle.cd_frames.specs.Reading.{Reading, front, gone_past, after_step}
 use Rattle.cd_frames.specs.Run.{given_by, Run, made, lent, filled, stepped, Stands}
 use Rattle.cd_frames.specs.Stream.{Front, gives, refuses, waits, front_of, joined, fault_of, frames_of, told}
 use Rattle.cd_frames.specs.StreamLaw.{front_is, front_told, told_told}
-use Rattle.cd_frames.specs.declared.frame.FrameFault.{FrameFault}
 
 -- the front of what a reader holds is that of the stream behind what was given
 front_stands : (stream : List ℕ) (given : List Message) (r : Reading) → Stands stream given r → front r ≡ front_of (length (joined given)) r.rest

@@ -1,11 +1,8 @@
 -- The laws of a stream of frames.
-use Rattle.std.proofs.Common.{◌≡◌, ℕ, zero, suc, ◌+◌, ◌<◌, ◌≤◌, min, Bool, true, false, cond, ltb, List, [], ◌∷◌, ◌++◌, length, take, drop, Option, Some, None, refl, sym, ap, subst, ◌∙◌, inl, inr, arith, append_assoc, length-append, length-drop, length-take, add-zero, take-append-drop}
-use Rattle.std.specs.Prelude.{All}
+use Rattle.std.proofs.Common.{◌≡◌, ℕ, ◌+◌, ◌<◌, ◌≤◌, min, Bool, true, false, cond, ltb, List, [], ◌∷◌, ◌++◌, length, take, drop, Option, Some, None, refl, sym, ap, subst, ◌∙◌, inl, inr, arith, append_assoc, length-append, length-drop, length-take, add-zero, take-append-drop}
 use Rattle.std.proofs.Math.Nat.{min-eq_left, min-eq_right}
 use Rattle.std.proofs.lemmas.Bool.{cases_lt, ltb-true, ltb-false, le-ltb}
-use Rattle.std.proofs.lemmas.Grind.{flat_map-append}
-use Rattle.std.proofs.lemmas.List.{append-nil, drop_at, drop-drop, take_at}
-use Rattle.std.proofs.lemmas.List.Elements.{All-append}
+use Rattle.std.proofs.lemmas.List.{append-nil, drop-drop, take_at}
 use Rattle.byteorder.specs.Endian.{big_number}
 use Rattle.cd_types.specs.CompoundLaw.{IsBytes-after}
 use Rattle.cd_types.specs.Format.{IsBytes}
@@ -14,9 +11,8 @@ use Rattle.cd_types.specs.NumberLaw.{IsBytes-take, number_has_length, number_law
 use Rattle.cd_frames.specs.Frame.{body_bytes, frame_bytes, message_in, IsFrame}
 use Rattle.cd_frames.specs.FrameLaw.{message_again, message_only}
 use Rattle.cd_frames.specs.Message.{Message}
-use Rattle.cd_frames.specs.Stream.{Front, gives, refuses, waits, judged, behind_length, front_of, told, joined, fault_of, frames_upto, frames_of, AreFramesOf}
+use Rattle.cd_frames.specs.Stream.{Front, gives, refuses, waits, judged, behind_length, front_of, told}
 use Rattle.cd_frames.specs.declared.frame.FrameFault.TheVariants as fault
-use Rattle.cd_frames.specs.declared.frame.FrameFault.{FrameFault}
 
 -- what is behind a number of n bytes is n bytes shorter
 pub number_front : (n : ℕ) (bytes : List ℕ) (x : ℕ) (rest : List ℕ) → number_in n bytes ≡ Some (x, rest) → length bytes ≡ n + length rest

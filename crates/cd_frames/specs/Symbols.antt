@@ -1,12 +1,12 @@
 -- The symbols of a submission: their number, and each name with its value.
-use Rattle.std.specs.Prelude.{ℕ, zero, suc, List, [], ◌∷◌, ◌++◌, length, Bool, ◌&&◌, nat_le, ◌==◌, Option, Some, None, is_some, if◌then◌else◌}
+use Rattle.std.specs.Prelude.{◌≡◌, ℕ, zero, suc, List, [], ◌∷◌, ◌++◌, length, Bool, ◌&&◌, nat_le, ◌==◌, Option, Some, None, is_some, if◌then◌else◌}
 use Rattle.std.specs.List.{flat_map}
 use Rattle.std.proofs.Common.{◌≤◌, leb, arith}
 use Rattle.std.proofs.lemmas.Bool.{leb-true}
 use Rattle.cd_types.specs.Format.{◌>>=◌}
 use Rattle.cd_types.specs.Layout.{Layout, ◌⋆◌, text}
 use Rattle.cd_types.specs.Number.{number_bytes, number_in}
-use Rattle.cd_types.specs.Symbols.{upper_case, with_symbol}
+use Rattle.cd_types.specs.Symbols.{upper_case, with_symbol, symbol_value}
 use Rattle.cd_types.specs.Text.{text_bytes, text_in}
 use Rattle.cd_types.specs.TextLaw.{both_true, text_law}
 use Rattle.std.specs.Prelude.{IsTrue}
@@ -78,3 +78,13 @@ is_symbols bytes = is_some (do
 abbrev pub with_pairs : List (List ℕ × List ℕ) → List (List ℕ × List ℕ) → List (List ℕ × List ℕ)
 with_pairs symbols [] = symbols
 with_pairs symbols (pair ∷ pairs) = with_pairs (with_symbol symbols (upper_case pair.0) pair.1) pairs
+
+-- symbols to which the pairs that were found are given
+abbrev pub given : List (List ℕ × List ℕ) → Option (List (List ℕ × List ℕ) × List ℕ) → Option (List (List ℕ × List ℕ))
+given symbols None = None
+given symbols (Some found) = Some (with_pairs symbols found.0)
+
+-- each name is in upper case, and none of those before it
+abbrev pub AreNew : List (List ℕ × List ℕ) → List (List ℕ × List ℕ) → Type 0
+AreNew before [] = Unit {0}
+AreNew before (pair ∷ pairs) = (upper_case pair.0 ≡ pair.0) × (symbol_value before pair.0 ≡ None) × AreNew (before ++ pair ∷ []) pairs

@@ -1,5 +1,5 @@
 //! Laws of the definitions, each the contract of a function that does nothing.
-ghost use Rattle.std.specs.Prelude.{◌≡◌, ℕ, List, [], ◌++◌, All, Some, None};
+ghost use Rattle.std.specs.Prelude.{◌≡◌, ℕ, ◌<◌, List, [], ◌++◌, length, All, Some, None, is_some};
 ghost use Rattle.cd_types.specs.Format.{IsBytes};
 ghost use Rattle.cd_frames.specs.declared.frame.FrameFault.{FrameFault};
 ghost use Rattle.std.specs.Prelude.{Option};
@@ -8,6 +8,7 @@ ghost use Rattle.cd_frames.specs.Message.{Message};
 ghost use Rattle.cd_frames.specs.Reading.{Reading, front};
 ghost use Rattle.cd_frames.specs.Run.{Run};
 ghost use Rattle.cd_frames.specs.Stream.{frames_of, joined, refuses, waits, AreFramesOf};
+ghost use Rattle.cd_frames.specs.Symbols.{is_symbols, pairs_of, symbols_bytes, with_pairs, AreNew, ArePairs};
 
 /// What is written behind a frame's length is read as what the frame says, and nothing else is read so. No frame's bytes begin
 /// another frame's bytes.
@@ -29,8 +30,8 @@ pub fn law_of_streams()
     ensures joined { (messages : List Message) → All IsFrame messages → frames_of (joined messages) ≡ (messages, None) }
 {}
 
-/// After any calls of `room`, `filled` and `step` (or `next`), in any order, what was given begins the list of the stream's frames.
-/// Where the reader waits, all were given and no fault stands next; where it refuses, all were given and that fault stands next.
+/// After any calls of `room`, `filled` and `step`, in any order, what was passed begins the list of the stream's frames.
+/// Where the reader waits, all were passed and no fault stands next; where it refuses, all were passed and that fault stands next.
 pub fn law_of_readers()
     ensures given { (stream : List ℕ) (given : List Message) (reader : Reading) → Run stream given reader
         → (more : List Message) × ((frames_of stream).0 ≡ given ++ more) }
@@ -38,4 +39,14 @@ pub fn law_of_readers()
         → frames_of stream ≡ (given, None) }
     ensures refusing { (stream : List ℕ) (given : List Message) (reader : Reading) (why : FrameFault) → Run stream given reader → front reader ≡ refuses why
         → frames_of stream ≡ (given, Some why) }
+{}
+
+/// What is written as symbols is read as those symbols, and nothing else is. Where each name is in upper case and stands once, as in
+/// symbols that were given one by one, the symbols that are made of them are the same.
+pub fn law_of_symbols()
+    ensures again { (pairs : List (List ℕ × List ℕ)) → ArePairs pairs → length pairs < 65536 → pairs_of (symbols_bytes pairs) ≡ Some pairs }
+    ensures only { (bytes : List ℕ) (pairs : List (List ℕ × List ℕ)) → IsBytes bytes → pairs_of bytes ≡ Some pairs
+        → (bytes ≡ symbols_bytes pairs) × ArePairs pairs × (length pairs < 65536) }
+    ensures test { (bytes : List ℕ) → is_symbols bytes ≡ is_some (pairs_of bytes) }
+    ensures same { (pairs : List (List ℕ × List ℕ)) → AreNew [] pairs → with_pairs [] pairs ≡ pairs }
 {}

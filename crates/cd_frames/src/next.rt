@@ -50,7 +50,7 @@ impl Reader {
         match self.step() {
             Ok(true) => Ok(self.frame()),
             Ok(false) => Ok(None),
-            Err(fault) => Err(fault),
+            Err(why) => Err(why),
         }
     }
 

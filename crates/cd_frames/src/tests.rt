@@ -1,5 +1,7 @@
 //! Every kind of frame against bytes that were written by hand from the formats, and the reader on pieces of any size.
-use crate::{Frame, FrameFault, Hello, Reader, RejectCause, Welcome, write_frame};
+use crate::{
+    Frame, FrameFault, Hello, Reader, RejectCause, Welcome, symbols_of, write_frame, write_symbols,
+};
 use cd_types::{Cause, Disp, Key, NodeName, Outcomes, ProcNo, TaskKind};
 use std::alloc::Global;
 use std::process::Abort;
@@ -24,6 +26,9 @@ const STEP_SUBMIT: &[u8] =
     b"\0\0\0\x2f\x07\x05ALPHA\0\0\0\0\0\0\0\x11\0\0\0\x01\0\x04\0\x06sub.cd\x01\x04BETA\x0a\0\x01\x02&X\0\0\0\x02hi";
 
 const SYMBOLS: &[u8] = b"\0\x01\x02&X\0\0\0\x02hi";
+
+const WITHOUT_SYMBOLS: &[u8] =
+    b"\0\0\0\x21\x07\x05ALPHA\0\0\0\0\0\0\0\x11\0\0\0\x01\0\x04\0\x06sub.cd\0\0\0\0";
 
 const READY: &[u8] = b"\0\0\0\x1d\x08\x05ALPHA\0\0\0\0\0\0\0\x11\0\0\0\x01\0\0\0\0\0\0\0\0\x08\0";
 
@@ -289,5 +294,35 @@ fn a_fault_behind_frames(rt: HostRuntime) -> Result<(), Fail> {
     assert!(rt; matches!(reader.next(), Ok(Some(Frame::Ready(..)))));
     assert!(rt; matches!(reader.next(), Err(FrameFault::Bad(38))));
     assert!(rt; matches!(reader.next(), Err(FrameFault::Bad(38))));
+    Ok(())
+}
+
+/// The next frame is a StepSubmit with these symbols, and they are written as they came.
+fn symbols_are(
+    rt: &impl Abort,
+    alloc: Global,
+    reader: &mut Reader,
+    want: &[u8],
+) -> Result<(), Fail> {
+    let Ok(Some(frame)) = reader.next() else {
+        return Err(Fail::from("no frame"));
+    };
+    let Frame::StepSubmit(_, _, _, _, bytes) = frame else {
+        return Err(Fail::from("no submission"));
+    };
+    let symbols = symbols_of(alloc, bytes)?;
+    let mut written = Vec::new(alloc);
+    write_symbols(&symbols, &mut written)?;
+    assert_eq!(rt; written.as_slice(), want);
+    Ok(())
+}
+
+#[test]
+fn symbols_come_back(rt: HostRuntime) -> Result<(), Fail> {
+    let mut reader = Reader::new(rt.alloc())?;
+    fill(&mut reader, STEP_SUBMIT)?;
+    fill(&mut reader, WITHOUT_SYMBOLS)?;
+    symbols_are(&rt, rt.alloc(), &mut reader, SYMBOLS)?;
+    symbols_are(&rt, rt.alloc(), &mut reader, b"\0\0")?;
     Ok(())
 }

@@ -1,6 +1,5 @@
-use Rattle.std.proofs.Common.{◌≡◌, ◌-◌, ◌++◌, ◌≤◌, ℕ, None, length, take, drop, ap, sym, refl, ◌∙◌, arith}
+use Rattle.std.proofs.Common.{◌≡◌, ◌-◌, ◌++◌, ◌≤◌, None, length, take, drop, ap, sym, refl, ◌∙◌, arith}
 use Rattle.std.proofs.lemmas.Slice.{between_to_end}
-use Rattle.std.specs.Vec.{with_items_from}
 use Rattle.cd_frames.specs.Buffer.{between, given_in}
 use Rattle.cd_frames.specs.Reading.{Reading, overwritten}
 use Rattle.cd_frames.specs.StreamLaw.{waits_short}
