@@ -107,12 +107,13 @@ impl MemoryLines {
 }
 
 impl Lines for MemoryLines {
-    ghost use Rattle.std.specs.Prelude.{◌≡◌, ◌≤◌, ◌<◌, ◌+◌, ◌-◌, length, take, true, false, IsOk, IsErr, IfOk, OnOk, OnErr, IfSome, IfNone};
+    ghost use Rattle.std.specs.Prelude.{◌≡◌, ◌≤◌, ◌<◌, ◌+◌, length, take, true, false, is_some, if◌then◌else◌, IsOk, IsErr, IfOk, OnOk, OnErr, IfSome, IfNone};
     ghost use Rattle.cd_outside.specs.Counts.{next, Rose};
     ghost use Rattle.cd_outside.specs.Lines.{IsFresh, took, sent, GaveFront, NeverFell, CountsIf, SameEnds, SameOtherEnds, is_end, is_no_session};
     ghost use Rattle.cd_content.specs.Exchange.{traffic_in, last_in, faults_in, ends_in};
     ghost use Rattle.cd_content.specs.Pieces.{coming};
-    ghost use Rattle.cd_memory.specs.MemoryLines.{traffic_of, last_of, counts_of, are_starved, waiting_of, pieces_of, lines_fail_next};
+    ghost use Rattle.cd_outside.specs.declared.lines.ConnectFault.TheVariants as fault;
+    ghost use Rattle.cd_memory.specs.MemoryLines.{traffic_of, last_of, counts_of, lines_script, lines_calls, are_starved, are_refusing, waiting_of, pieces_of, lines_fail_next};
 
     ghost told = { Unit {0} };
 
@@ -122,14 +123,37 @@ impl Lines for MemoryLines {
 
     ghost counts = { λ lines. record { faults = faults_in lines.exchange; connects = lines.connects; accepts = lines.accepts; ends = ends_in lines.exchange; nones = lines.nones } };
 
-    fn listen(&mut self, _: u16) -> Result<(), Failed> {
+    fn listen(&mut self, _: u16) -> Result<(), Failed>
+        ensures same { traffic_of self.new ≡ traffic_of self.old }
+        ensures last { last_of self.new ≡ last_of self.old }
+        ensures ends { SameEnds (counts_of self.old) (counts_of self.new) }
+        ensures nones { (counts_of self.new).nones ≡ (counts_of self.old).nones }
+        ensures later { NeverFell (counts_of self.old) (counts_of self.new) }
+        ensures cause { OnErr result (Rose (counts_of self.old).accepts (counts_of self.new).accepts) }
+        ensures counted { (lines_script self.new ≡ lines_script self.old) × (lines_calls self.new ≡ next (lines_calls self.old)) }
+        ensures fails { lines_fail_next self.old ≡ true → IsErr result }
+        ensures goes { lines_fail_next self.old ≡ false → IsOk result }
+    {
         if self.tally.begin() {
             return Err(failed(&mut self.accepts));
         }
         Ok(())
     }
 
-    fn connect(&mut self, _: &[u8], _: u16) -> Result<Sid, ConnectFault> {
+    fn connect(&mut self, _: &[u8], _: u16) -> Result<Sid, ConnectFault>
+        ensures same { traffic_of self.new ≡ traffic_of self.old }
+        ensures newest { IfOk result (λ sid. (last_of self.old < sid.number) × (last_of self.new ≡ sid.number)) }
+        ensures fresh { IfOk result (λ sid. IsFresh sid.number (traffic_of self.new)) }
+        ensures none { OnErr result (last_of self.new ≡ last_of self.old) }
+        ensures ends { SameEnds (counts_of self.old) (counts_of self.new) }
+        ensures nones { (counts_of self.new).nones ≡ (counts_of self.old).nones }
+        ensures later { NeverFell (counts_of self.old) (counts_of self.new) }
+        ensures cause { OnErr result (Rose (counts_of self.old).connects (counts_of self.new).connects) }
+        ensures counted { (lines_script self.new ≡ lines_script self.old) × (lines_calls self.new ≡ next (lines_calls self.old)) }
+        ensures fails { lines_fail_next self.old ≡ true → IsErr result }
+        ensures refused { are_refusing self.old ≡ true → lines_fail_next self.old ≡ false → result ≡ Err fault.Refused }
+        ensures goes { lines_fail_next self.old ≡ false → are_refusing self.old ≡ false → are_starved self.new ≡ false → IsOk result }
+    {
         if self.tally.begin() {
             failed(&mut self.connects);
             return Err(ConnectFault::Failed);
@@ -148,7 +172,23 @@ impl Lines for MemoryLines {
         }
     }
 
-    fn accept(&mut self) -> Result<Option<Sid>, Failed> {
+    fn accept(&mut self) -> Result<Option<Sid>, Failed>
+        ensures same { traffic_of self.new ≡ traffic_of self.old }
+        ensures newest { IfOk result (λ given. IfSome given (λ sid. (last_of self.old < sid.number) × (last_of self.new ≡ sid.number))) }
+        ensures fresh { IfOk result (λ given. IfSome given (λ sid. IsFresh sid.number (traffic_of self.new))) }
+        ensures none { IfOk result (λ given. IfNone given (last_of self.new ≡ last_of self.old)) }
+        ensures refused { OnErr result (last_of self.new ≡ last_of self.old) }
+        ensures ends { SameEnds (counts_of self.old) (counts_of self.new) }
+        ensures nones { CountsIf (is_no_session result) (counts_of self.old).nones (counts_of self.new).nones }
+        ensures later { NeverFell (counts_of self.old) (counts_of self.new) }
+        ensures cause { OnErr result (Rose (counts_of self.old).accepts (counts_of self.new).accepts) }
+        ensures counted { (lines_script self.new ≡ lines_script self.old) × (lines_calls self.new ≡ next (lines_calls self.old)) }
+        ensures fails { lines_fail_next self.old ≡ true → IsErr result }
+        ensures goes { lines_fail_next self.old ≡ false → are_starved self.new ≡ false → IsOk result }
+        ensures none_waits { waiting_of self.old ≡ 0 → lines_fail_next self.old ≡ false → is_no_session result ≡ true }
+        ensures one_waits { is_no_session result ≡ true → waiting_of self.old ≡ 0 }
+        ensures waiting { IfOk result (λ given. waiting_of self.old ≡ waiting_of self.new + (if is_some given then 1 else 0)) }
+    {
         if self.tally.begin() {
             return Err(failed(&mut self.accepts));
         }
@@ -168,7 +208,24 @@ impl Lines for MemoryLines {
         }
     }
 
-    fn receive(&mut self, sid: Sid, into: &mut [u8]) -> Result<usize, Failed> {
+    fn receive(&mut self, sid: Sid, into: &mut [u8]) -> Result<usize, Failed>
+        requires from { 1 ≤ sid.number }
+        requires to { sid.number ≤ last_of self.old }
+        requires room { 0 < length into.old }
+        ensures within { IfOk result (λ n. n ≤ length into.old) }
+        ensures taken { IfOk result (λ n. traffic_of self.new ≡ took sid.number (take n into.new) (traffic_of self.old)) }
+        ensures none { OnErr result (traffic_of self.new ≡ traffic_of self.old) }
+        ensures last { last_of self.new ≡ last_of self.old }
+        ensures ends { CountsIf (is_end result) ((counts_of self.old).ends sid.number) ((counts_of self.new).ends sid.number) }
+        ensures other_ends { SameOtherEnds sid.number (counts_of self.old) (counts_of self.new) }
+        ensures nones { (counts_of self.new).nones ≡ (counts_of self.old).nones }
+        ensures later { NeverFell (counts_of self.old) (counts_of self.new) }
+        ensures cause { OnErr result (Rose ((counts_of self.old).faults sid.number) ((counts_of self.new).faults sid.number)) }
+        ensures counted { (lines_script self.new ≡ lines_script self.old) × (lines_calls self.new ≡ next (lines_calls self.old)) }
+        ensures fails { lines_fail_next self.old ≡ true → IsErr result }
+        ensures goes { lines_fail_next self.old ≡ false → are_starved self.new ≡ false → IsOk result }
+        ensures bytes { IfOk result (λ n. take n into.new ≡ take (length into.old) (coming (traffic_of self.old) (pieces_of self.old) sid.number)) }
+    {
         if self.tally.begin() {
             self.exchange.fail(sid.number);
             return Err(Failed);
@@ -188,7 +245,20 @@ impl Lines for MemoryLines {
         Ok(count)
     }
 
-    fn send(&mut self, sid: Sid, bytes: &[u8]) -> Result<(), Failed> {
+    fn send(&mut self, sid: Sid, bytes: &[u8]) -> Result<(), Failed>
+        requires from { 1 ≤ sid.number }
+        requires to { sid.number ≤ last_of self.old }
+        ensures sent { OnOk result (traffic_of self.new ≡ sent sid.number bytes.now (traffic_of self.old)) }
+        ensures front { OnErr result (GaveFront sid.number bytes.now (traffic_of self.old) (traffic_of self.new)) }
+        ensures last { last_of self.new ≡ last_of self.old }
+        ensures ends { SameEnds (counts_of self.old) (counts_of self.new) }
+        ensures nones { (counts_of self.new).nones ≡ (counts_of self.old).nones }
+        ensures later { NeverFell (counts_of self.old) (counts_of self.new) }
+        ensures cause { OnErr result (Rose ((counts_of self.old).faults sid.number) ((counts_of self.new).faults sid.number)) }
+        ensures counted { (lines_script self.new ≡ lines_script self.old) × (lines_calls self.new ≡ next (lines_calls self.old)) }
+        ensures fails { lines_fail_next self.old ≡ true → IsErr result }
+        ensures goes { lines_fail_next self.old ≡ false → are_starved self.new ≡ false → IsOk result }
+    {
         if self.tally.begin() {
             self.exchange.fail(sid.number);
             return Err(Failed);

@@ -3,6 +3,7 @@
 
 mod clock;
 mod disk;
+mod files;
 mod streams;
 
 use crate::clock::SystemClock;

@@ -3,7 +3,7 @@ use Rattle.cd_memory.proofs.Front.{gave_none}
 use Rattle.cd_memory.proofs.lines.MemoryLinesLines.send.Goals as goal
 
 pub returns-then-begin-clause-front : goal.returns-then-begin-clause-front
-returns-then-begin-clause-front c = λ told. gave_none c.args.sid.number c.args.bytes.now _ _ c.fail.ensures.same.traffic
+returns-then-begin-clause-front c = gave_none c.args.sid.number c.args.bytes.now _ _ c.fail.ensures.same.traffic
 
 pub returns-in-Err-clause-front : goal.returns-in-Err-clause-front
-returns-in-Err-clause-front c = λ told. gave_none c.args.sid.number c.args.bytes.now _ _ (c.fail-in-Err.ensures.same.traffic ∙ c.in-Err.ensures.same)
+returns-in-Err-clause-front c = gave_none c.args.sid.number c.args.bytes.now _ _ (c.fail-in-Err.ensures.same.traffic ∙ c.in-Err.ensures.same)
