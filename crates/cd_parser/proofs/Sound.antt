@@ -36,7 +36,7 @@ use Rattle.cd_grammar.specs.Later.{Found}
 use Rattle.cd_parser.specs.declared.state.State.{State}
 use Rattle.cd_parser.specs.declared.state.State.TheVariants.{At, Labelled, Named, Value, Parenthesized, Closing, Values, Symbol, SymbolValue, Starting, Dated, Timing, Timed, GroupOpen, Compress, Prime, PrimeValue, Primed, Extended, Extending, Pairs, PairNamed, PairValue, Running, IfOpen, IfLabel, IfRelation, IfNumber, IfClose, IfThen, GotoLabel, Ended, Closed}
 use Rattle.cd_parser.proofs.Starts.{IsStart, start_slot}
-use Rattle.cd_parser.specs.Machine.{Turn, Move, kept, with_place, roomy, on, is_open, is_close, is_equals, behind_open, behind_close, behind_equals, behind_word, unset, free, sided, end_state, compress_if, compress_by, copy_state, bare_state, else_turn, eif_turn, if_turn, verb_turn, label_move, statement_turn, ended_turn, bare_turn, is_symbolic, symbol_turn, slot_turn, word_turn, mark_move, at_turn, named_label, named_turn, is_start, open_move, plain_value, value_move, values_move, symbol_value_turn, is_comma_sign, wanted_at, starting_move, dated_move, time_move, timing_move, half_move, timed_move, compress_turn, primed_turn, extended_turn, pairs_move, running_move, if_label_move, if_number_move, if_then_turn, goto_turn, labelled_turn, ended_move, next, at_end, bind_turn, run, titled, whole}
+use Rattle.cd_parser.specs.Machine.{Turn, Move, kept, with_place, roomy, on, is_open, is_close, is_equals, behind_open, behind_close, behind_equals, behind_word, unset, free, sided, end_state, compress_if, compress_by, copy_state, bare_state, else_turn, eif_turn, if_turn, verb_turn, label_move, statement_turn, ended_turn, bare_turn, is_symbolic, symbol_turn, slot_turn, is_opener, word_by, word_turn, mark_move, at_turn, named_label, named_turn, is_start, open_move, plain_value, value_move, values_move, symbol_value_turn, is_comma_sign, wanted_at, starting_move, dated_move, time_move, timing_move, half_move, timed_move, compress_turn, primed_turn, extended_turn, pairs_move, running_move, if_label_move, if_number_move, if_then_turn, goto_turn, labelled_turn, ended_move, next, at_end, bind_turn, run, titled, whole}
 
 -- the copy that COMPRESS was read of
 abbrev pub IsCompressed : CopyGiven → CopyGiven → Type 0
@@ -275,9 +275,13 @@ module _ (how : Strictness) (ts : List Token) (all : Reading) where
   slot_sound r s at k word (Some set) e h = unset_sound r s at k word set (has (given_of s) set) e refl h
   slot_sound r s at k word None e h = symbol_sound r s at k word (takes_symbols s && is_symbolic word) refl h
 
+  word_by_sound : (r : Reading) (s : Step) (at : ℕ) (k : Key) (word : List ℕ) (opens : Bool) → Going how ts all (word_by how r s at k word opens) → Rest how (g.At r s) (Word at k word ∷ ts) all
+  word_by_sound r s at k word true h = by_ended (ended r s) _ at h (λ before e going. statement_sound r before s at k word e going)
+  word_by_sound r s at k word false h = slot_sound r s at k word (slot_of s k) refl h
+
   word_sound : (r : Reading) (s : Step) (at : ℕ) (k : Key) (word : List ℕ) → Going how ts all (word_turn how r s at k word) → Rest how (g.At r s) (Word at k word ∷ ts) all
   unfolding word_turn
-  word_sound r s at k word h = slot_sound r s at k word (slot_of s k) refl h
+  word_sound r s at k word h = word_by_sound r s at k word (is_opener k) h
 
   mark_sound : (r : Reading) (s : Step) (at : ℕ) (m : Sign) → Going how ts all (kept r (mark_move s at m)) → Rest how (g.At r s) (Mark at m ∷ ts) all
   unfolding mark_move

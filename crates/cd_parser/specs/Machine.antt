@@ -211,9 +211,26 @@ abbrev pub slot_turn : Strictness → Reading → Step → ℕ → Key → List 
 slot_turn how r s at k word (Some set) = Ok (r, Named s set at k word)
 slot_turn how r s at k word None = symbol_turn how r s at k word (takes_symbols s && is_symbolic word)
 
+-- a word with which a statement begins, or the Process ends
+unfoldable pub is_opener : Key → Bool
+is_opener key.Copy = true
+is_opener key.Run = true
+is_opener key.Submit = true
+is_opener key.If = true
+is_opener key.Else = true
+is_opener key.Eif = true
+is_opener key.Goto = true
+is_opener key.Exit = true
+is_opener key.Pend = true
+is_opener _ = false
+
+abbrev pub word_by : Strictness → Reading → Step → ℕ → Key → List ℕ → Bool → Turn
+word_by how r s at k word true = ended_turn (ended r s) (λ before. statement_turn how before at k word) at
+word_by how r s at k word false = slot_turn how r s at k word (free (given_of s) (slot_of s k))
+
 -- a word where a parameter may stand
 unfoldable pub word_turn : Strictness → Reading → Step → ℕ → Key → List ℕ → Turn
-word_turn how r s at k word = slot_turn how r s at k word (free (given_of s) (slot_of s k))
+word_turn how r s at k word = word_by how r s at k word (is_opener k)
 
 -- a sign where a parameter may stand
 unfoldable pub mark_move : Step → ℕ → Sign → Move
