@@ -52,7 +52,7 @@ told_kept n entries (turn ∷ turns) h =
     let command = told_by turn.event in
     ⊎_elim
     (λ (now : tells n (answer entries command) ≡ true).
-        has_later n (after_turn entries turn) turns (has_back n entries (option_to_list (added entries turn.now command)) (told_added n turn.now entries command now)))
+    has_later n (after_turn entries turn) turns (has_back n entries (option_to_list (added entries turn.now command)) (told_added n turn.now entries command now)))
     (λ (later : list_any (tells n) (replies (after_turn entries turn) turns) ≡ true). told_kept n (after_turn entries turn) turns later)
     (either (tells n (answer entries command)) (list_any (tells n) (replies (after_turn entries turn) turns)) h)
 

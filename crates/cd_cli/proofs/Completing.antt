@@ -129,6 +129,10 @@ module _ (disk clock source sink rose_disk rose_in rose_out : Type 0) (moment : 
   pub served_completes : (out_now : List ℕ) (status : Status) → Why status → Served disk clock source sink rose_out moment before now input rest out out_now status → Completes moment before.seen input out out_now status
   served_completes out_now status why served = ⊎_elim
       (λ (none : NotOpened disk source sink before now input rest out served.told status). inl (never_opened status none.opening why))
-      (λ (o : Opened disk clock source sink moment before now input rest out served.told status). inr (o.entries, o.stood tells_disk, o.legal,
-          λ fits. ran_whole o.entries served.told out_now fits status o.ran (took_whole served.told (last_line status) out_now (served.last tells_sink)) why))
+      (λ (o : Opened disk clock source sink moment before now input rest out served.told status). inr (
+        o.entries,
+        o.stood tells_disk,
+        o.legal,
+        λ fits. ran_whole o.entries served.told out_now fits status o.ran (took_whole served.told (last_line status) out_now (served.last tells_sink)) why,
+      ))
       served.came

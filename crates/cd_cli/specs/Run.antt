@@ -182,9 +182,3 @@ pub record GoneOn (entries : List Entry) (before : DiskState) (from : ℕ) (home
 -- leave of a home that had the entries of the journal's bytes at the begin.
 abbrev pub RunMayLeave : DiskState → List ℕ → Type 0
 RunMayLeave before image = IsImage before.doubt image ⊎ ((entries : List Entry) × StandsFor before.seen entries × MayLeave (before.seen ≡ []) entries image)
-
--- the run came to its end
-abbrev pub EndedWell : Status → Type 0
-EndedWell Done = Unit {0}
-EndedWell Refused = Unit {0}
-EndedWell _ = ⊥

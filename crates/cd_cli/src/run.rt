@@ -13,7 +13,7 @@ ghost use Rattle.cd_turn.specs.Status.{last_line};
 ghost use Rattle.cd_turn.specs.Turn.{IsFormed, told_by};
 ghost use Rattle.cd_cli.specs.Flow.{was_refused};
 ghost use Rattle.cd_cli.specs.Complete.{IsFit, Completes};
-ghost use Rattle.cd_cli.specs.Run.{most_input, EndedBy, GoneOn, RunMayLeave, EndedWell, TookLine, IfBetween, Ran, Came, Served};
+ghost use Rattle.cd_cli.specs.Run.{most_input, EndedBy, GoneOn, RunMayLeave, TookLine, IfBetween, Ran, Came, Served};
 ghost use Rattle.cd_cli.specs.Stretch.{standing, HaveTurned, Halted, Went, Finishes};
 
 use crate::flow::{Flow, Last, flow_of};

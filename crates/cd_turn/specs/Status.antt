@@ -1,8 +1,6 @@
 -- The line that ends a run.
 use Rattle.std.specs.Prelude.{ℕ, List, [], ◌++◌, codes}
 use Rattle.std.specs.Fmt.{decimal}
-use Rattle.cd_journal.specs.declared.fault.JournalFault.{JournalFault}
-use Rattle.cd_journal.specs.declared.fault.JournalFault.TheVariants as fault
 use Rattle.cd_turn.specs.Reply.{line}
 use Rattle.cd_turn.specs.declared.status.Status.{Status}
 use Rattle.cd_turn.specs.declared.status.Status.TheVariants.{Done, Usage, Refused, Unfit, DiskFault, JournalFull, SourceFault, SinkFault, InputLimit, NoMemory}
@@ -18,13 +16,6 @@ last_line SourceFault = line (codes "INPUT FAULT")
 last_line SinkFault = []
 last_line InputLimit = line (codes "INPUT LIMIT")
 last_line NoMemory = line (codes "NO MEMORY")
-
--- the status of a run that a fault of the journal ends
-abbrev pub status_of : JournalFault → Status
-status_of fault.Disk = DiskFault
-status_of (fault.Full len) = JournalFull len
-status_of (fault.Unfit at) = Unfit at
-status_of fault.NoMemory = NoMemory
 
 -- the exit status of the program
 abbrev pub status_code : Status → ℕ

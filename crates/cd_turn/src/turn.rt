@@ -12,7 +12,6 @@ ghost use Rattle.cd_turn.specs.Legal.{IsLegal, IsNext};
 ghost use Rattle.cd_turn.specs.PlainSeen.{seen_plain, seen_command};
 ghost use Rattle.cd_turn.specs.Reply.{reply_text};
 ghost use Rattle.cd_turn.specs.Ends.{MayLeave, journal_length, FitsBehind, HasReason, TookAtEnd};
-ghost use Rattle.cd_turn.specs.Status.{status_of};
 ghost use Rattle.cd_turn.specs.Turn.{is_named, submission_answer, answer, submission, added, IsFormed, MayKeep};
 
 use crate::canonical::plain_text;
@@ -25,17 +24,6 @@ use cd_journal::JournalFault;
 use cd_outside::{Beat, Disk, Sink};
 use cd_types::{Bytes, Moment, NoMemory, ProcNo};
 use std::alloc::Global;
-
-fn status_of(fault: JournalFault) -> Status
-    ensures { result ≡ status_of fault }
-{
-    match fault {
-        JournalFault::Disk => Status::DiskFault,
-        JournalFault::Full(len) => Status::JournalFull(len),
-        JournalFault::Unfit(at) => Status::Unfit(at),
-        JournalFault::NoMemory => Status::NoMemory,
-    }
-}
 
 fn is_named(entries: &[Entry]) -> bool
     ensures { result ≡ is_named entries.now }
