@@ -74,7 +74,7 @@ is_closed depth (mark ∷ marks) = if is_none depth && is_eif mark.what then tru
 unfoldable pub is_inside : List ℕ → ℕ → List Mark → Bool
 is_inside name depth [] = false
 is_inside name depth (mark ∷ marks) =
-    if is_named name mark then not (is_none depth) && is_closed 0 marks
+    if is_named name mark then not (is_none depth) && is_closed (open_behind mark.what 0) marks
     else is_inside name (open_behind mark.what depth) marks
 
 abbrev pub fault_if : Bool → FaultName → ℕ → List Found
