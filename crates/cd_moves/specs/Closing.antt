@@ -9,7 +9,9 @@ use Rattle.cd_frames.specs.Message as message
 use Rattle.cd_frames.specs.Message.{Message}
 use Rattle.cd_status.specs.Processes.{Submission, submission, is_live}
 use Rattle.cd_status.specs.Queue.{Waits, placing, queue_at, runs_in, retried}
-use Rattle.cd_moves.specs.Node.{Phase, Gone, Greet, Await, Ask, Ready, Offer, Send, Take, Node, Deed, Keep, Go}
+use Rattle.cd_moves.specs.declared.session.Phase.{Phase}
+use Rattle.cd_moves.specs.declared.session.Phase.TheVariants.{Gone, Greet, Await, Ask, Fresh, Ready, Offer, Send, Take}
+use Rattle.cd_moves.specs.Node.{Node, Deed, Keep, Go}
 
 -- What a session knows.
 

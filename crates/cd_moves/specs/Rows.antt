@@ -1,10 +1,13 @@
--- What a node does with what happens in a session: for each phase, a row of deeds for each frame. A frame that has no row
--- closes the session.
-use Rattle.std.specs.Prelude.{ℕ, List, [], ◌∷◌, ◌++◌, length, min, Bool, true, false, not, ◌&&◌, ◌||◌, ◌==◌, nat_le, nat_lt, Option, Some, None, if◌then◌else◌}
+-- What a node does with what happens in a session: for each phase, the part of a row for each frame, and then what comes
+-- behind it. A frame that has no row closes the session.
+use Rattle.std.specs.Prelude.{ℕ, zero, suc, List, [], ◌∷◌, ◌++◌, length, min, Bool, true, false, not, ◌&&◌, ◌||◌, ◌==◌, nat_le, nat_lt, Option, Some, None, if◌then◌else◌}
+use Rattle.std.specs.List.{filter_map}
 use Rattle.std.specs.Str.{bytes_eq}
 use Rattle.cd_types.specs.declared.choices.Cause.{Cause}
 use Rattle.cd_types.specs.declared.choices.Cause.TheVariants as cause
+use Rattle.cd_types.specs.declared.choices.Queue.{Queue}
 use Rattle.cd_types.specs.declared.choices.Queue.TheVariants as queue
+use Rattle.cd_types.specs.declared.choices.Reason.{Reason}
 use Rattle.cd_types.specs.declared.choices.Reason.TheVariants as reason
 use Rattle.cd_types.specs.declared.choices.Side.{Side}
 use Rattle.cd_types.specs.declared.choices.Side.TheVariants as side
@@ -12,6 +15,7 @@ use Rattle.cd_types.specs.declared.key.Key.{Key}
 use Rattle.cd_types.specs.declared.rows.Outcomes.{Outcomes}
 use Rattle.cd_types.specs.declared.rows.Placing.{Placing}
 use Rattle.cd_types.specs.declared.rows.Receiving.{Receiving}
+use Rattle.cd_types.specs.declared.rows.Row.{Row}
 use Rattle.cd_entries.specs.declared.entry.Entry.{Entry}
 use Rattle.cd_entries.specs.declared.entry.Entry.TheVariants as entry
 use Rattle.cd_ast.specs.declared.process.What.{What}
@@ -23,35 +27,43 @@ use Rattle.cd_frames.specs.declared.frame.RejectCause.TheVariants as reject
 use Rattle.cd_frames.specs.declared.frame.Welcome.{Welcome}
 use Rattle.cd_status.specs.Keys.{same_key}
 use Rattle.cd_status.specs.Openings.{is_receiving_for}
-use Rattle.cd_status.specs.Processes.{Submission, submission, own_home, is_live, is_forgotten, is_over}
-use Rattle.cd_status.specs.Queue.{Waits, placing, stands, retried}
+use Rattle.cd_status.specs.Processes.{Submission, submission, own_home, is_live, moment_of, is_forgotten, is_over}
+use Rattle.cd_status.specs.Queue.{Waits, placing, stands, retried, next_due}
 use Rattle.cd_status.specs.Status as status
 use Rattle.cd_status.specs.Status.{Status, outcome}
 use Rattle.cd_legal.specs.Legal.{allowed, greatest_file}
-use Rattle.cd_moves.specs.Node.{Talk, Source, Phase, Gone, Greet, Await, Ask, Fresh, Ready, Offer, Send, Take, Node, Deed, Keep, Touch, AskSize, AskBytes, Give, Go, recorded, Answers}
-use Rattle.std.specs.List.{filter_map}
-use Rattle.cd_types.specs.declared.choices.Queue.{Queue}
-use Rattle.cd_types.specs.declared.choices.Reason.{Reason}
-use Rattle.cd_types.specs.declared.rows.Row.{Row}
-use Rattle.cd_legal.specs.Steps.{Reading}
-use Rattle.cd_status.specs.Queue.{next_due}
+use Rattle.cd_legal.specs.Steps.{Reading, what_at}
+use Rattle.cd_moves.specs.declared.session.Talk.{Talk}
+use Rattle.cd_moves.specs.declared.session.Source.{Source}
+use Rattle.cd_moves.specs.declared.session.Announced.{Announced}
+use Rattle.cd_moves.specs.declared.session.Phase.{Phase}
+use Rattle.cd_moves.specs.declared.session.Phase.TheVariants.{Gone, Greet, Await, Ask, Fresh, Ready, Offer, Send, Take}
+use Rattle.cd_moves.specs.declared.session.Then.{Then}
+use Rattle.cd_moves.specs.declared.session.Then.TheVariants.{Done, Next, Undo, Push, Offered, Onto, Piece}
+use Rattle.cd_moves.specs.Node.{Node, Deed, Keep, Touch, AskSize, AskBytes, Begin, Go, Part, only, behind, does, recorded, Answers}
 use Rattle.cd_moves.specs.Closing.{own_number, key_under_way, is_running, close, trouble}
-use Rattle.cd_moves.specs.Sending.{send_from, interval_of, next, settle, what_next}
-use Rattle.cd_moves.specs.Receiving.{failed, answer, drop_back, Announced, receive, is_piece_at, take_piece, land, gives_up}
+use Rattle.cd_moves.specs.Sending.{send_from, piece_read, piece_len, interval_of, source_known, ended, next}
+use Rattle.cd_moves.specs.Receiving.{undone, given_up, receive, target_known, is_piece_at, take_piece, land, drop_back, gives_up}
 
--- Rows whose entries may not follow close the session, before any of their deeds.
+-- A part whose entry may not follow closes the session, before any of its deeds.
 
-abbrev pub are_allowed : Reading → List Entry → List Deed → Bool
-are_allowed read journal [] = true
-are_allowed read journal (Keep e ∷ deeds) = allowed read journal e && are_allowed read (e ∷ journal) deeds
-are_allowed read journal (Touch change ∷ deeds) = are_allowed read journal deeds
-are_allowed read journal (AskSize name ∷ deeds) = are_allowed read journal deeds
-are_allowed read journal (AskBytes name at len ∷ deeds) = are_allowed read journal deeds
-are_allowed read journal (Give key ∷ deeds) = are_allowed read journal deeds
-are_allowed read journal (Go phase frames ∷ deeds) = are_allowed read journal deeds
+-- it isn't of a later moment
+abbrev pub is_by : ℕ → Option ℕ → Bool
+is_by now None = true
+is_by now (Some moment) = nat_le moment now
 
-abbrev pub checked : Node → List Deed → List Deed → List Deed
-checked node deeds otherwise = if are_allowed node.config.read node.journal deeds then deeds else otherwise
+-- each entry may follow those before it, at this moment
+abbrev pub are_allowed : Reading → ℕ → List Entry → List Deed → Bool
+are_allowed read now journal [] = true
+are_allowed read now journal (Keep e ∷ deeds) = allowed read journal e && is_by now (moment_of e) && are_allowed read now (e ∷ journal) deeds
+are_allowed read now journal (Touch change ∷ deeds) = are_allowed read now journal deeds
+are_allowed read now journal (AskSize name ∷ deeds) = are_allowed read now journal deeds
+are_allowed read now journal (AskBytes name at len ∷ deeds) = are_allowed read now journal deeds
+are_allowed read now journal (Begin key phase ∷ deeds) = are_allowed read now journal deeds
+are_allowed read now journal (Go phase frames ∷ deeds) = are_allowed read now journal deeds
+
+abbrev pub checked : Node → ℕ → Phase → Part → Part
+checked node now phase part = if are_allowed node.config.read now node.journal part.deeds then part else only (close node now phase)
 
 -- The PNODE.
 
@@ -60,105 +72,98 @@ abbrev pub place_in : ℕ → ℕ → Queue → Reason → Placing → Entry
 place_in n now in_queue why before = entry.Placed n (stands in_queue why before.prty) now
 
 -- the session of the PNODE: its keys have the name and home of this node, and the number of the Process
-abbrev pub own_talk : Option (List ℕ × ℕ) → ℕ → ℕ → Welcome → Talk
-own_talk None n block w = record { partner = w.name; pnode = []; home = 0; number = Some n; block = min w.block block }
-own_talk (Some own) n block w = record { partner = w.name; pnode = own.0; home = own.1; number = Some n; block = min w.block block }
+abbrev pub own_talk : List ℕ × ℕ → ℕ → ℕ → Welcome → Talk
+own_talk own n block w = record { partner = w.name; pnode = own.0; home = own.1; number = Some n; block = min w.block block }
 
 -- the partner isn't the one that was called, or doesn't take the session: the Process is held wherever it stands
 abbrev pub held : Node → ℕ → ℕ → Option Placing → List Deed
 held node now n None = []
 held node now n (Some placed) = if is_live node.journal n then Keep (place_in n now queue.Hold reason.Rejected placed) ∷ [] else []
 
-abbrev pub rejected : Node → ℕ → ℕ → List Deed
-rejected node now n = held node now n (placing node.journal n) ++ Go Gone [] ∷ []
+abbrev pub rejected : Node → ℕ → ℕ → Part
+rejected node now n = only (held node now n (placing node.journal n) ++ Go Gone [] ∷ [])
 
 abbrev pub is_called : Option Submission → List ℕ → Bool
 is_called None name = false
 is_called (Some s) name = bytes_eq name s.card.snode
 
 -- the Process runs, and its next step is taken
-abbrev pub run : Node → ℕ → Welcome → Answers → Option Placing → List Deed
-run node n w answers None = close node answers.now (Greet n)
-run node n w answers (Some placed) =
-    let e = place_in n answers.now queue.Execution reason.Running placed in
-    if is_running answers.now placed
-    then Keep e ∷ next (recorded e node) n (own_talk (own_home node.journal) n node.config.block w) answers
-    else close node answers.now (Greet n)
+abbrev pub run : Node → ℕ → ℕ → Welcome → Option Placing → Option (List ℕ × ℕ) → Part
+run node now n w (Some placed) (Some own) =
+    if is_running now placed
+    then record { deeds = Keep (place_in n now queue.Execution reason.Running placed) ∷ []; later = Next (own_talk own n node.config.block w) n }
+    else only (close node now (Greet n))
+run node now n w _ _ = only (close node now (Greet n))
 
-abbrev pub row_greet : Node → ℕ → Answers → Message → List Deed
-row_greet node n answers (message.Welcome w) =
-    if is_called (submission node.journal n) w.name then run node n w answers (placing node.journal n) else rejected node answers.now n
-row_greet node n answers (message.Reject (reject.Busy total)) = close node answers.now (Greet n)
-row_greet node n answers (message.Reject _) = rejected node answers.now n
-row_greet node n answers _ = close node answers.now (Greet n)
+abbrev pub row_greet : Node → ℕ → ℕ → Message → Part
+row_greet node now n (message.Welcome w) =
+    if is_called (submission node.journal n) w.name then run node now n w (placing node.journal n) (own_home node.journal) else rejected node now n
+row_greet node now n (message.Reject (reject.Busy total)) = only (close node now (Greet n))
+row_greet node now n (message.Reject _) = rejected node now n
+row_greet node now n _ = only (close node now (Greet n))
 
 -- a source is sent, or sent anew, from an offset within its length
-abbrev pub ready_from : Side → Node → Phase → Talk → Key → Option Source → ℕ → Answers → List Deed
-ready_from role node phase talk key None offset answers = close node answers.now phase
-ready_from role node phase talk key (Some source) offset answers =
-    if nat_le offset source.length then send_from role talk key source offset answers else close node answers.now phase
+abbrev pub ready_from : Node → ℕ → Phase → Side → Talk → Key → Option Source → ℕ → Part
+ready_from node now phase role talk key None offset = only (close node now phase)
+ready_from node now phase role talk key (Some source) offset =
+    if nat_le offset source.length then send_from role talk key source offset else only (close node now phase)
 
-abbrev pub row_await : Node → Phase → Talk → Key → Option Source → Answers → Message → List Deed
-row_await node phase talk key source answers (message.Ready step offset) =
-    if same_key step key then ready_from side.Pnode node phase talk key source offset answers else close node answers.now phase
-row_await node phase talk key source answers (message.Result step o) =
-    if same_key step key then settle side.Pnode node talk key o answers else close node answers.now phase
-row_await node phase talk key source answers _ = close node answers.now phase
+abbrev pub row_await : Node → ℕ → Phase → Talk → Key → Option Source → Message → Part
+row_await node now phase talk key source (message.Ready step offset) =
+    if same_key step key then ready_from node now phase side.Pnode talk key source offset else only (close node now phase)
+row_await node now phase talk key source (message.Result step o) =
+    if same_key step key then ended talk key o now else only (close node now phase)
+row_await node now phase talk key source _ = only (close node now phase)
 
 -- what a pull is to become, by its statement
 abbrev pub announced_by : Option What → ℕ → Option Announced
 announced_by (Some (what.Copy step)) len = Some (record { name = step.to; disp = step.disp; interval = interval_of step.ckpt; length = len })
 announced_by _ len = None
 
-abbrev pub receive_announced : Node → Phase → Talk → Key → Option Announced → Answers → List Deed
-receive_announced node phase talk key None answers = close node answers.now phase
-receive_announced node phase talk key (Some a) answers = receive side.Pnode node phase talk key a answers
+abbrev pub receive_announced : Node → ℕ → Phase → Talk → Key → Option Announced → Part
+receive_announced node now phase talk key None = only (close node now phase)
+receive_announced node now phase talk key (Some a) = receive node now phase side.Pnode talk key a
 
--- the sender gave up: an open receiving is dropped back, else the step has its cause
-abbrev pub given_up : Side → Node → Talk → Key → Cause → Answers → Status → List Deed
-given_up role node talk key why answers (status.Open r safe) = drop_back role node talk r why answers
-given_up role node talk key why answers _ = answer role node talk key (failed why) answers
-
-abbrev pub row_ask : Node → Phase → Talk → Key → Answers → Message → List Deed
-row_ask node phase talk key answers (message.Length step len) =
-    if same_key step key then receive_announced node phase talk key (announced_by (what_next node key.number) len) answers else close node answers.now phase
-row_ask node phase talk key answers (message.Abort step why) =
-    if same_key step key && gives_up why then given_up side.Pnode node talk key why answers (status.status node.journal key) else close node answers.now phase
-row_ask node phase talk key answers _ = close node answers.now phase
+abbrev pub row_ask : Node → ℕ → Phase → Talk → Key → Message → Part
+row_ask node now phase talk key (message.Length step len) =
+    if same_key step key then receive_announced node now phase talk key (announced_by (what_at node.config.read node.journal key.number key.place) len) else only (close node now phase)
+row_ask node now phase talk key (message.Abort step why) =
+    if same_key step key && gives_up why then given_up side.Pnode talk key why now (status.status node.journal key) else only (close node now phase)
+row_ask node now phase talk key _ = only (close node now phase)
 
 -- Both sides.
 
 -- the next piece goes out on the Ack of the last one
-abbrev pub row_send : Side → Node → Phase → Talk → Key → Source → ℕ → Answers → Message → List Deed
-row_send role node phase talk key source awaited answers (message.Ack step offset) =
-    if same_key step key && offset == awaited then send_from role talk key source offset answers else close node answers.now phase
-row_send role node phase talk key source awaited answers _ = close node answers.now phase
+abbrev pub row_send : Node → ℕ → Phase → Side → Talk → Key → Source → ℕ → Message → Part
+row_send node now phase role talk key source awaited (message.Ack step offset) =
+    if same_key step key && offset == awaited then send_from role talk key source offset else only (close node now phase)
+row_send node now phase role talk key source awaited _ = only (close node now phase)
 
-abbrev pub row_take_of : Side → Node → Phase → Talk → Receiving → ℕ → Answers → Message → List Deed
-row_take_of role node phase talk r came answers (message.Data step offset bytes) =
-    if same_key step r.key && is_piece_at talk r came offset (length bytes) then take_piece role talk r came bytes else close node answers.now phase
-row_take_of role node phase talk r came answers (message.End step len) =
-    if same_key step r.key && len == r.length && came == r.length then land role node talk r answers else close node answers.now phase
-row_take_of role node phase talk r came answers (message.Abort step why) =
-    if same_key step r.key && gives_up why then drop_back role node talk r why answers else close node answers.now phase
-row_take_of role node phase talk r came answers _ = close node answers.now phase
+abbrev pub row_take_of : Node → ℕ → Phase → Side → Talk → Receiving → ℕ → Message → Part
+row_take_of node now phase role talk r came (message.Data step offset bytes) =
+    if same_key step r.key && is_piece_at talk r came offset (length bytes) then take_piece role talk r came bytes else only (close node now phase)
+row_take_of node now phase role talk r came (message.End step len) =
+    if same_key step r.key && len == r.length && came == r.length then land role talk r now else only (close node now phase)
+row_take_of node now phase role talk r came (message.Abort step why) =
+    if same_key step r.key && gives_up why then drop_back role talk r.key why else only (close node now phase)
+row_take_of node now phase role talk r came _ = only (close node now phase)
 
-abbrev pub row_take : Side → Node → Phase → Talk → ℕ → Answers → Message → Status → List Deed
-row_take role node phase talk came answers m (status.Open r safe) = row_take_of role node phase talk r came answers m
-row_take role node phase talk came answers m _ = close node answers.now phase
+abbrev pub row_take : Node → ℕ → Phase → Side → Talk → ℕ → Message → Status → Part
+row_take node now phase role talk came m (status.Open r safe) = row_take_of node now phase role talk r came m
+row_take node now phase role talk came m _ = only (close node now phase)
 
 -- The SNODE.
 
 -- each Hello is welcomed, with the node's own block; the lesser of the two is that of the session
-abbrev pub welcome : Option (List ℕ × ℕ) → ℕ → Hello → List Deed
-welcome None block h = Go Gone [] ∷ []
+abbrev pub welcome : Option (List ℕ × ℕ) → ℕ → Hello → Part
+welcome None block h = only (Go Gone [] ∷ [])
 welcome (Some own) block h =
-    Go (Ready (record { partner = h.name; pnode = h.name; home = h.home; number = None; block = min h.block block }) None)
-    (message.Welcome (record { name = own.0; home = own.1; block = block }) ∷ []) ∷ []
+    only (Go (Ready (record { partner = h.name; pnode = h.name; home = h.home; number = None; block = min h.block block }) None)
+    (message.Welcome (record { name = own.0; home = own.1; block = block }) ∷ []) ∷ [])
 
-abbrev pub row_fresh : Node → Answers → Message → List Deed
-row_fresh node answers (message.Hello h) = welcome (own_home node.journal) node.config.block h
-row_fresh node answers _ = close node answers.now Fresh
+abbrev pub row_fresh : Node → ℕ → Message → Part
+row_fresh node now (message.Hello h) = welcome (own_home node.journal) node.config.block h
+row_fresh node now _ = only (close node now Fresh)
 
 -- a session has one number, which its first Step or Forget tells
 abbrev pub is_number_of : Option ℕ → ℕ → Bool
@@ -180,31 +185,35 @@ abbrev pub is_newer : Node → ℕ → Key → Option ℕ → Bool
 is_newer node sid key None = false
 is_newer node sid key (Some other) = nat_lt sid other && is_same_key key (key_under_way (node.phase other))
 
--- a step that is done is answered as it was done, and another one does its row
-abbrev pub answered : Talk → Key → Option Outcomes → List Deed → List Deed
-answered talk key None deeds = deeds
-answered talk key (Some o) deeds = Go (Ready talk (Some key)) (message.Result key o ∷ []) ∷ []
+-- a step that is done is answered as it was done
+abbrev pub answered : Talk → Key → Outcomes → Part
+answered talk key o = only (Go (Ready talk (Some key)) (message.Result key o ∷ []) ∷ [])
+
+-- another one does its row
+abbrev pub unless_done : Node → ℕ → Talk → Key → Option Outcomes → Part → Part
+unless_done node now talk key None part = checked node now (Ready talk (Some key)) part
+unless_done node now talk key (Some o) part = answered talk key o
 
 -- A step is taken where its key is of the session and isn't forgotten, and no newer session holds the key. It takes the key
 -- from an older session, also where its row closes the session.
-abbrev pub take_step : Node → ℕ → Phase → Talk → Key → Answers → List Deed → List Deed
-take_step node sid phase talk key answers deeds =
+abbrev pub take_step : Node → ℕ → ℕ → Phase → Talk → Key → Part → Part
+take_step node now sid phase talk key part =
     if is_of_talk talk key && not (is_over node.journal key) && not (is_newer node sid key (node.holder key))
-    then Give key ∷ answered (with_number key.number talk) key (outcome node.journal key) (checked node deeds (close node answers.now phase))
-    else close node answers.now phase
+    then behind (Begin key (Ready (with_number key.number talk) (Some key))) (unless_done node now (with_number key.number talk) key (outcome node.journal key) part)
+    else only (close node now phase)
 
--- the length of a source goes out, or Abort where it is missing or too large
-abbrev pub offer : Talk → Key → List ℕ → ℕ → Option ℕ → Deed
-offer talk key name interval None = Go (Ready talk (Some key)) (message.Abort key cause.NoSource ∷ [])
-offer talk key name interval (Some len) =
+-- the source was asked for its length, which goes out; or Abort where it is missing or too large
+abbrev pub offered : Talk → Key → List ℕ → ℕ → Option ℕ → Part
+offered talk key name interval None = only (Go (Ready talk (Some key)) (message.Abort key cause.NoSource ∷ []) ∷ [])
+offered talk key name interval (Some len) =
     if nat_le len greatest_file
-    then Go (Offer talk key (record { name = name; length = len; interval = interval })) (message.Length key len ∷ [])
-    else Go (Ready talk (Some key)) (message.Abort key cause.TooLarge ∷ [])
+    then only (Go (Offer talk key (record { name = name; length = len; interval = interval })) (message.Length key len ∷ []) ∷ [])
+    else only (Go (Ready talk (Some key)) (message.Abort key cause.TooLarge ∷ []) ∷ [])
 
 -- the PNODE's Process is over: nothing more is asked of its steps, which is recorded once
-abbrev pub forget : Node → Talk → Option Key → ℕ → List Deed
+abbrev pub forget : Node → Talk → Option Key → ℕ → Part
 forget node talk last n =
-    (if is_forgotten node.journal talk.pnode talk.home n then [] else Keep (entry.Forgot talk.pnode talk.home n) ∷ []) ++ Go (Ready (with_number n talk) last) [] ∷ []
+    only ((if is_forgotten node.journal talk.pnode talk.home n then [] else Keep (entry.Forgot talk.pnode talk.home n) ∷ []) ++ Go (Ready (with_number n talk) last) [] ∷ [])
 
 -- a push that its PNODE gives up in the place of its step
 abbrev pub is_in_place : Cause → Bool
@@ -212,40 +221,40 @@ is_in_place cause.NoSource = true
 is_in_place cause.TooLarge = true
 is_in_place _ = false
 
-abbrev pub row_ready : Node → ℕ → Phase → Talk → Option Key → Answers → Message → List Deed
-row_ready node sid phase talk last answers (message.StepCopyTo key name disp interval len) =
-    take_step node sid phase talk key answers
-    (receive side.Snode node phase (with_number key.number talk) key (record { name = name; disp = disp; interval = interval; length = len }) answers)
-row_ready node sid phase talk last answers (message.StepCopyFrom key name interval) =
-    take_step node sid phase talk key answers (AskSize name ∷ offer (with_number key.number talk) key name interval answers.source ∷ [])
-row_ready node sid phase talk last answers (message.Abort key why) =
+abbrev pub row_ready : Node → ℕ → ℕ → Phase → Talk → Option Key → Message → Part
+row_ready node now sid phase talk last (message.StepCopyTo key name disp interval len) =
+    take_step node now sid phase talk key
+    (receive node now (Ready (with_number key.number talk) (Some key)) side.Snode (with_number key.number talk) key (record { name = name; disp = disp; interval = interval; length = len }))
+row_ready node now sid phase talk last (message.StepCopyFrom key name interval) =
+    take_step node now sid phase talk key (record { deeds = []; later = Offered (with_number key.number talk) key name interval })
+row_ready node now sid phase talk last (message.Abort key why) =
     if is_in_place why
-    then take_step node sid phase talk key answers (given_up side.Snode node (with_number key.number talk) key why answers (status.status node.journal key))
-    else close node answers.now phase
-row_ready node sid phase talk last answers (message.Forget home n) =
-    if home == talk.home && is_number_of talk.number n && not (is_receiving_for node.journal talk.pnode home n) then forget node talk last n else close node answers.now phase
-row_ready node sid phase talk last answers message.Bye = Go Gone [] ∷ []
-row_ready node sid phase talk last answers _ = close node answers.now phase
+    then take_step node now sid phase talk key (given_up side.Snode (with_number key.number talk) key why now (status.status node.journal key))
+    else only (close node now phase)
+row_ready node now sid phase talk last (message.Forget home n) =
+    if home == talk.home && is_number_of talk.number n && not (is_receiving_for node.journal talk.pnode home n) then forget node talk last n else only (close node now phase)
+row_ready node now sid phase talk last message.Bye = only (Go Gone [] ∷ [])
+row_ready node now sid phase talk last _ = only (close node now phase)
 
 -- where a length was announced, Ready begins the sending; all else is as where a step is awaited
-abbrev pub row_offer : Node → ℕ → Phase → Talk → Key → Source → Answers → Message → List Deed
-row_offer node sid phase talk key source answers (message.Ready step offset) =
-    if same_key step key then ready_from side.Snode node phase talk key (Some source) offset answers else close node answers.now phase
-row_offer node sid phase talk key source answers m = row_ready node sid phase talk (Some key) answers m
+abbrev pub row_offer : Node → ℕ → ℕ → Phase → Talk → Key → Source → Message → Part
+row_offer node now sid phase talk key source (message.Ready step offset) =
+    if same_key step key then ready_from node now phase side.Snode talk key (Some source) offset else only (close node now phase)
+row_offer node now sid phase talk key source m = row_ready node now sid phase talk (Some key) m
 
 -- What happens.
 
--- the row of a frame in a phase
-abbrev pub row_in : Node → ℕ → Answers → Message → Phase → List Deed
-row_in node sid answers m Gone = Go Gone [] ∷ []
-row_in node sid answers m (Greet n) = row_greet node n answers m
-row_in node sid answers m (Await talk key source) = row_await node (Await talk key source) talk key source answers m
-row_in node sid answers m (Ask talk key) = row_ask node (Ask talk key) talk key answers m
-row_in node sid answers m Fresh = row_fresh node answers m
-row_in node sid answers m (Ready talk last) = row_ready node sid (Ready talk last) talk last answers m
-row_in node sid answers m (Offer talk key source) = row_offer node sid (Offer talk key source) talk key source answers m
-row_in node sid answers m (Send role talk key source awaited) = row_send role node (Send role talk key source awaited) talk key source awaited answers m
-row_in node sid answers m (Take role talk key came) = row_take role node (Take role talk key came) talk came answers m (status.status node.journal key)
+-- the part for a frame in a phase
+abbrev pub part_in : Node → ℕ → ℕ → Message → Phase → Part
+part_in node now sid m Gone = only (Go Gone [] ∷ [])
+part_in node now sid m (Greet n) = row_greet node now n m
+part_in node now sid m (Await talk key source) = row_await node now (Await talk key source) talk key source m
+part_in node now sid m (Ask talk key) = row_ask node now (Ask talk key) talk key m
+part_in node now sid m Fresh = row_fresh node now m
+part_in node now sid m (Ready talk last) = row_ready node now sid (Ready talk last) talk last m
+part_in node now sid m (Offer talk key source) = row_offer node now sid (Offer talk key source) talk key source m
+part_in node now sid m (Send role talk key source awaited) = row_send node now (Send role talk key source awaited) role talk key source awaited m
+part_in node now sid m (Take role talk key came) = row_take node now (Take role talk key came) role talk came m (status.status node.journal key)
 
 -- the Process of the session isn't live any more
 abbrev pub is_dead : Node → Option ℕ → Bool
@@ -261,18 +270,63 @@ abbrev pub is_detached : Node → ℕ → Option Key → Bool
 is_detached node sid None = false
 is_detached node sid (Some key) = not (is_sid sid (node.holder key))
 
+-- the first part of the row of a frame
+abbrev pub first_part : Node → ℕ → ℕ → Message → Part
+first_part node now sid m =
+    let phase = node.phase sid in
+    if is_dead node (own_number phase) || is_detached node sid (key_under_way phase) then only (close node now phase)
+    else checked node now phase (part_in node now sid m phase)
+
+-- what comes behind a part, in the phase that the session has then
+abbrev pub part_behind : Node → ℕ → Phase → Answers → Then → Part
+part_behind node now phase answers Done = only []
+part_behind node now phase answers (Next talk n) = next node now phase talk n
+part_behind node now phase answers (Undo role talk key why) = undone node now phase role talk key why (status.status node.journal key)
+part_behind node now phase answers (Push talk key) = source_known node now phase talk key answers.source
+part_behind node now phase answers (Offered talk key name interval) = offered talk key name interval answers.source
+part_behind node now phase answers (Onto role talk key a) = target_known role talk key a now answers.there
+part_behind node now phase answers (Piece role talk key source offset) = piece_read role talk key source offset answers.bytes
+
+-- the source of a push, by its statement
+abbrev pub source_in : Option What → List ℕ
+source_in (Some (what.Copy step)) = step.from
+source_in _ = []
+
+-- what is asked of the files before it
+abbrev pub asked : Node → Then → List Deed
+asked node Done = []
+asked node (Next talk n) = []
+asked node (Undo role talk key why) = []
+asked node (Push talk key) = AskSize (source_in (what_at node.config.read node.journal key.number key.place)) ∷ []
+asked node (Offered talk key name interval) = AskSize name ∷ []
+asked node (Onto role talk key a) = AskSize a.name ∷ []
+asked node (Piece role talk key source offset) = AskBytes source.name offset (piece_len talk source offset) ∷ []
+
+-- a part and all that comes behind it, in at most so many more parts
+abbrev pub is_done : Then → Bool
+is_done Done = true
+is_done _ = false
+
+unfoldable pub all_parts : ℕ → Node → ℕ → Answers → Part → List Deed
+all_parts zero node sid answers part = part.deeds
+all_parts (suc more) node sid answers part =
+    let after = does sid part.deeds node in
+    part.deeds ++ (if is_done part.later then []
+    else asked after part.later ++ all_parts more after sid answers (checked after answers.now (after.phase sid) (part_behind after answers.now (after.phase sid) answers part.later)))
+
+-- A row has a part for each of at most 1,024 steps that have their outcome already, and few others.
+abbrev pub most_parts : ℕ
+most_parts = 1030
+
 -- a frame of a session
 abbrev pub row : Node → ℕ → Answers → Message → List Deed
-row node sid answers m =
-    let closed = close node answers.now (node.phase sid) in
-    if is_dead node (own_number (node.phase sid)) || is_detached node sid (key_under_way (node.phase sid)) then closed
-    else checked node (row_in node sid answers m (node.phase sid)) closed
+row node sid answers m = all_parts most_parts node sid answers (first_part node answers.now sid m)
 
 -- the end of a session, or a frame that is none
 abbrev pub row_end : Node → ℕ → ℕ → List Deed
 row_end node sid now = close node now (node.phase sid)
 
--- a fault of the files within a step
+-- a fault of the files, behind the deeds that were done before it
 abbrev pub row_trouble : Node → ℕ → ℕ → List Deed
 row_trouble node sid now = trouble node now (node.phase sid)
 

@@ -1,22 +1,28 @@
 -- Whatever comes in whatever phase, each deed of its row leaves a legal journal that has the earlier one behind it.
-use Rattle.std.proofs.Common.{◌≡◌, ℕ, ◌+◌, ◌≤◌, Bool, true, false, cond, ◌&&◌, leb, List, [], ◌∷◌, ◌++◌, Option, Some, None, inl, inr, refl, sym, ◌∙◌, ap, subst, min, arith}
+use Rattle.std.proofs.Common.{◌≡◌, ℕ, zero, suc, ◌+◌, ◌≤◌, Bool, true, false, cond, ◌&&◌, leb, List, [], ◌∷◌, ◌++◌, Option, Some, None, inl, inr, refl, sym, ◌∙◌, ap, subst, min, arith}
+use Rattle.std.proofs.Math.Nat.{max-le}
+use Rattle.std.proofs.lemmas.List.{append-nil}
 use Rattle.std.specs.Prelude.{◌||◌, not}
-use Rattle.std.proofs.lemmas.Bool.{cases_Bool, and_parts, and_from, or_cases, or_left, le-leb, cond-true, cond-false, false≢true}
+use Rattle.std.proofs.lemmas.Bool.{cases_Bool, and_parts, and_from, or_cases, or_left, le-leb, leb-true, cond-true, cond-false, false≢true}
 use Rattle.cd_types.specs.declared.choices.Queue.{Queue}
 use Rattle.cd_types.specs.declared.choices.Queue.TheVariants as queue
 use Rattle.cd_types.specs.declared.rows.Placing.{Placing}
 use Rattle.cd_entries.specs.declared.entry.Entry.{Entry}
 use Rattle.cd_entries.specs.declared.entry.Entry.TheVariants as entry
 use Rattle.cd_frames.specs.Message.{Message}
-use Rattle.cd_status.specs.Processes.{submission, is_live, latest}
+use Rattle.cd_status.specs.Processes.{submission, is_live, moment_of, later_of, latest}
 use Rattle.cd_status.specs.Queue.{Waits, placing, queue_of, runs_in, retried, after_attempts}
 use Rattle.cd_legal.specs.Legal.{allowed, is_legal, is_empty, may_place, is_reason_in, is_hold}
 use Rattle.cd_legal.specs.PlacingsLaw.{well_placed}
 use Rattle.cd_legal.specs.Promises.{HavePriorities, WellPlaced}
 use Rattle.cd_legal.specs.Steps.{Reading, runs_itself}
 use Rattle.cd_moves.specs.Closing.{own_number, key_under_way, is_running, waits_for, retry, retry_own, close, trouble}
-use Rattle.cd_moves.specs.Node.{Phase, Gone, Node, Deed, Keep, Touch, AskSize, AskBytes, Give, Go, recorded, did, does, Answers}
-use Rattle.cd_moves.specs.Rows.{are_allowed, checked, row_in, row, row_end, row_trouble, is_dead, is_detached}
+use Rattle.cd_moves.specs.declared.session.Phase.{Phase}
+use Rattle.cd_moves.specs.declared.session.Phase.TheVariants.{Gone}
+use Rattle.cd_moves.specs.declared.session.Then.{Then}
+use Rattle.cd_moves.specs.declared.session.Then.TheVariants.{Done, Next, Undo, Push, Offered, Onto, Piece}
+use Rattle.cd_moves.specs.Node.{Config, Node, Deed, Keep, Touch, AskSize, AskBytes, Begin, Go, Part, only, recorded, did, does, Answers}
+use Rattle.cd_moves.specs.Rows.{is_by, are_allowed, checked, part_in, first_part, part_behind, asked, is_done, all_parts, most_parts, row, row_end, row_trouble, is_dead, is_detached}
 use Rattle.cd_moves.specs.Promises.{StaysLegal}
 
 -- A journal into which a row was recorded.
@@ -25,18 +31,51 @@ legal_more : (read : Reading) (e : Entry) (journal : List Entry) → is_legal re
 unfolding is_legal
 legal_more read e journal legal fits = and_from (is_legal read journal) (allowed read journal e) legal fits
 
+later_by : (m : Option ℕ) (before now : ℕ) → is_by now m ≡ true → before ≤ now → later_of m before ≤ now
+later_by None before now by early = early
+later_by (Some moment) before now by early = max-le early (leb-true moment now by)
+
+latest_more : (e : Entry) (journal : List Entry) (now : ℕ) → is_by now (moment_of e) ≡ true → latest journal ≤ now → latest (e ∷ journal) ≤ now
+unfolding latest
+latest_more e journal now by early = later_by (moment_of e) (latest journal) now by early
+
+-- what an entry that may be recorded has
+kept_parts : (read : Reading) (now : ℕ) (journal : List Entry) (e : Entry) (deeds : List Deed) → are_allowed read now journal (Keep e ∷ deeds) ≡ true
+    → (allowed read journal e ≡ true) × (is_by now (moment_of e) ≡ true) × (are_allowed read now (e ∷ journal) deeds ≡ true)
+kept_parts read now journal e deeds fits =
+    let outer = and_parts (allowed read journal e && is_by now (moment_of e)) (are_allowed read now (e ∷ journal) deeds) fits in
+    let inner = and_parts (allowed read journal e) (is_by now (moment_of e)) outer.0 in
+    (inner.0, inner.1, outer.1)
+
+kept_fits : (read : Reading) (now : ℕ) (journal : List Entry) (e : Entry) (deeds : List Deed) → allowed read journal e ≡ true → is_by now (moment_of e) ≡ true
+    → are_allowed read now (e ∷ journal) deeds ≡ true → are_allowed read now journal (Keep e ∷ deeds) ≡ true
+kept_fits read now journal e deeds fits by rest = and_from (allowed read journal e && is_by now (moment_of e)) _ (and_from (allowed read journal e) _ fits by) rest
+
 -- each part of a row whose entries may follow leaves a legal journal
-part_legal : (sid : ℕ) (done more : List Deed) (node : Node) → is_legal node.config.read node.journal ≡ true
-    → are_allowed node.config.read node.journal (done ++ more) ≡ true → is_legal node.config.read (does sid done node).journal ≡ true
-part_legal sid [] more node legal fits = legal
-part_legal sid (Keep e ∷ done) more node legal fits =
-    let parts = and_parts (allowed node.config.read node.journal e) (are_allowed node.config.read (e ∷ node.journal) (done ++ more)) fits in
-    part_legal sid done more (recorded e node) (legal_more node.config.read e node.journal legal parts.0) parts.1
-part_legal sid (Touch change ∷ done) more node legal fits = part_legal sid done more (did sid (Touch change) node) legal fits
-part_legal sid (AskSize name ∷ done) more node legal fits = part_legal sid done more node legal fits
-part_legal sid (AskBytes name at len ∷ done) more node legal fits = part_legal sid done more node legal fits
-part_legal sid (Give key ∷ done) more node legal fits = part_legal sid done more (did sid (Give key) node) legal fits
-part_legal sid (Go phase frames ∷ done) more node legal fits = part_legal sid done more (did sid (Go phase frames) node) legal fits
+part_legal : (sid now : ℕ) (done more : List Deed) (node : Node) → is_legal node.config.read node.journal ≡ true
+    → are_allowed node.config.read now node.journal (done ++ more) ≡ true → is_legal node.config.read (does sid done node).journal ≡ true
+part_legal sid now [] more node legal fits = legal
+part_legal sid now (Keep e ∷ done) more node legal fits =
+    let parts = kept_parts node.config.read now node.journal e (done ++ more) fits in
+    part_legal sid now done more (recorded e node) (legal_more node.config.read e node.journal legal parts.0) parts.2
+part_legal sid now (Touch change ∷ done) more node legal fits = part_legal sid now done more (did sid (Touch change) node) legal fits
+part_legal sid now (AskSize name ∷ done) more node legal fits = part_legal sid now done more node legal fits
+part_legal sid now (AskBytes name at len ∷ done) more node legal fits = part_legal sid now done more node legal fits
+part_legal sid now (Begin key phase ∷ done) more node legal fits = part_legal sid now done more (did sid (Begin key phase) node) legal fits
+part_legal sid now (Go phase frames ∷ done) more node legal fits = part_legal sid now done more (did sid (Go phase frames) node) legal fits
+
+-- one without a later moment
+part_on_time : (sid now : ℕ) (done more : List Deed) (node : Node) → latest node.journal ≤ now
+    → are_allowed node.config.read now node.journal (done ++ more) ≡ true → latest (does sid done node).journal ≤ now
+part_on_time sid now [] more node early fits = early
+part_on_time sid now (Keep e ∷ done) more node early fits =
+    let parts = kept_parts node.config.read now node.journal e (done ++ more) fits in
+    part_on_time sid now done more (recorded e node) (latest_more e node.journal now parts.1 early) parts.2
+part_on_time sid now (Touch change ∷ done) more node early fits = part_on_time sid now done more (did sid (Touch change) node) early fits
+part_on_time sid now (AskSize name ∷ done) more node early fits = part_on_time sid now done more node early fits
+part_on_time sid now (AskBytes name at len ∷ done) more node early fits = part_on_time sid now done more node early fits
+part_on_time sid now (Begin key phase ∷ done) more node early fits = part_on_time sid now done more (did sid (Begin key phase) node) early fits
+part_on_time sid now (Go phase frames ∷ done) more node early fits = part_on_time sid now done more (did sid (Go phase frames) node) early fits
 
 -- and one that has the earlier one behind it
 part_extends : (sid : ℕ) (done : List Deed) (node : Node) → (later : List Entry) × ((does sid done node).journal ≡ later ++ node.journal)
@@ -50,8 +89,31 @@ part_extends sid (Keep e ∷ done) node =
 part_extends sid (Touch change ∷ done) node = part_extends sid done (did sid (Touch change) node)
 part_extends sid (AskSize name ∷ done) node = part_extends sid done node
 part_extends sid (AskBytes name at len ∷ done) node = part_extends sid done node
-part_extends sid (Give key ∷ done) node = part_extends sid done (did sid (Give key) node)
+part_extends sid (Begin key phase ∷ done) node = part_extends sid done (did sid (Begin key phase) node)
 part_extends sid (Go phase frames ∷ done) node = part_extends sid done (did sid (Go phase frames) node)
+
+-- the texts are read as before
+same_config : (sid : ℕ) (done : List Deed) (node : Node) → (does sid done node).config ≡ node.config
+same_config sid [] node = refl
+same_config sid (Keep e ∷ done) node = same_config sid done (recorded e node)
+same_config sid (Touch change ∷ done) node = same_config sid done (did sid (Touch change) node)
+same_config sid (AskSize name ∷ done) node = same_config sid done node
+same_config sid (AskBytes name at len ∷ done) node = same_config sid done node
+same_config sid (Begin key phase ∷ done) node = same_config sid done (did sid (Begin key phase) node)
+same_config sid (Go phase frames ∷ done) node = same_config sid done (did sid (Go phase frames) node)
+
+-- entries that may follow, and behind them others that may
+both_fit : (sid now : ℕ) (read : Reading) (first second : List Deed) (node : Node) → are_allowed read now node.journal first ≡ true
+    → are_allowed read now (does sid first node).journal second ≡ true → are_allowed read now node.journal (first ++ second) ≡ true
+both_fit sid now read [] second node fits more = more
+both_fit sid now read (Keep e ∷ first) second node fits more =
+    let parts = kept_parts read now node.journal e first fits in
+    kept_fits read now node.journal e (first ++ second) parts.0 parts.1 (both_fit sid now read first second (recorded e node) parts.2 more)
+both_fit sid now read (Touch change ∷ first) second node fits more = both_fit sid now read first second (did sid (Touch change) node) fits more
+both_fit sid now read (AskSize name ∷ first) second node fits more = both_fit sid now read first second node fits more
+both_fit sid now read (AskBytes name at len ∷ first) second node fits more = both_fit sid now read first second node fits more
+both_fit sid now read (Begin key phase ∷ first) second node fits more = both_fit sid now read first second (did sid (Begin key phase) node) fits more
+both_fit sid now read (Go phase frames ∷ first) second node fits more = both_fit sid now read first second (did sid (Go phase frames) node) fits more
 
 -- A Process that is placed anew.
 
@@ -104,68 +166,109 @@ module _ (node : Node) (priorities : HavePriorities node.config.read) (legal : i
       and_from _ _ (and_from _ _ (and_from _ _ (and_from _ _ live why) low) high) (or_left (runs_itself node.journal n) (is_hold again.queue) itself) in
       and_from _ _ (and_from _ _ (not_empty node.journal n live) (le-leb (latest node.journal) now on_time)) place
 
-  retry_fits : (n : ℕ) (found : Option Placing) (last : Deed) → placing node.journal n ≡ found → are_allowed node.config.read node.journal (last ∷ []) ≡ true
-      → ((journal : List Entry) → are_allowed node.config.read journal (last ∷ []) ≡ true)
-      → are_allowed node.config.read node.journal (retry node now n found ++ last ∷ []) ≡ true
+  retry_fits : (n : ℕ) (found : Option Placing) (last : Deed) → placing node.journal n ≡ found → are_allowed node.config.read now node.journal (last ∷ []) ≡ true
+      → ((journal : List Entry) → are_allowed node.config.read now journal (last ∷ []) ≡ true)
+      → are_allowed node.config.read now node.journal (retry node now n found ++ last ∷ []) ≡ true
   retry_fits n None last is plain always = plain
   retry_fits n (Some placed) last is plain always =
       elim (cases_Bool (is_live node.journal n && is_running now placed)) [
         | inl runs ↦
             let parts = and_parts (is_live node.journal n) (is_running now placed) runs in
             let e : Entry = entry.Placed n (retried (waits_for node (submission node.journal n)) now placed) now in
-            let kept : are_allowed node.config.read node.journal (Keep e ∷ last ∷ []) ≡ true =
-            and_from (allowed node.config.read node.journal e) (are_allowed node.config.read (e ∷ node.journal) (last ∷ []))
-            (retry_allowed n placed (waits_for node (submission node.journal n)) is parts.0 parts.1) (always (e ∷ node.journal)) in
-            subst (λ (deeds : List Deed). are_allowed node.config.read node.journal (deeds ++ last ∷ []) ≡ true)
+            let kept : are_allowed node.config.read now node.journal (Keep e ∷ last ∷ []) ≡ true =
+            kept_fits node.config.read now node.journal e (last ∷ [])
+            (retry_allowed n placed (waits_for node (submission node.journal n)) is parts.0 parts.1) (le-leb now now (omega arith)) (always (e ∷ node.journal)) in
+            subst (λ (deeds : List Deed). are_allowed node.config.read now node.journal (deeds ++ last ∷ []) ≡ true)
             (sym (cond-true (is_live node.journal n && is_running now placed) (Keep e ∷ []) [] runs)) kept
         | inr rests ↦
-            subst (λ (deeds : List Deed). are_allowed node.config.read node.journal (deeds ++ last ∷ []) ≡ true)
+            subst (λ (deeds : List Deed). are_allowed node.config.read now node.journal (deeds ++ last ∷ []) ≡ true)
             (sym (cond-false (is_live node.journal n && is_running now placed) _ [] rests)) plain
       ]
 
-  end_fits : (own : Option ℕ) (frames : List Message) → are_allowed node.config.read node.journal (retry_own node now own ++ Go Gone frames ∷ []) ≡ true
+  end_fits : (own : Option ℕ) (frames : List Message) → are_allowed node.config.read now node.journal (retry_own node now own ++ Go Gone frames ∷ []) ≡ true
   end_fits None frames = refl
   end_fits (Some n) frames = retry_fits n (placing node.journal n) (Go Gone frames) refl refl (λ _. refl)
 
-  close_fits : (phase : Phase) → are_allowed node.config.read node.journal (close node now phase) ≡ true
+  close_fits : (phase : Phase) → are_allowed node.config.read now node.journal (close node now phase) ≡ true
   close_fits phase = end_fits (own_number phase) []
 
-  trouble_fits : (phase : Phase) → are_allowed node.config.read node.journal (trouble node now phase) ≡ true
+  trouble_fits : (phase : Phase) → are_allowed node.config.read now node.journal (trouble node now phase) ≡ true
   trouble_fits phase = close_fits phase
 
--- either of two rows whose entries may follow
-checked_fits : (node : Node) (deeds otherwise : List Deed) → are_allowed node.config.read node.journal otherwise ≡ true
-    → are_allowed node.config.read node.journal (checked node deeds otherwise) ≡ true
-checked_fits node deeds otherwise plain =
-    elim (cases_Bool (are_allowed node.config.read node.journal deeds)) [
-      | inl fits ↦ subst (λ (chosen : List Deed). are_allowed node.config.read node.journal chosen ≡ true) (sym (cond-true (are_allowed node.config.read node.journal deeds) deeds otherwise fits)) fits
-      | inr not_fits ↦ subst (λ (chosen : List Deed). are_allowed node.config.read node.journal chosen ≡ true) (sym (cond-false (are_allowed node.config.read node.journal deeds) deeds otherwise not_fits)) plain
+  -- a part whose entries may follow, or else the end
+  checked_fits : (phase : Phase) (part : Part) → are_allowed node.config.read now node.journal (checked node now phase part).deeds ≡ true
+  checked_fits phase part =
+      elim (cases_Bool (are_allowed node.config.read now node.journal part.deeds)) [
+        | inl fits ↦ subst (λ (chosen : Part). are_allowed node.config.read now node.journal chosen.deeds ≡ true) (sym (cond-true (are_allowed node.config.read now node.journal part.deeds) part (only (close node now phase)) fits)) fits
+        | inr not_fits ↦ subst (λ (chosen : Part). are_allowed node.config.read now node.journal chosen.deeds ≡ true) (sym (cond-false (are_allowed node.config.read now node.journal part.deeds) part (only (close node now phase)) not_fits)) (close_fits phase)
+      ]
+
+-- questions record nothing
+asked_fits : (read : Reading) (now : ℕ) (journal : List Entry) (node : Node) (last : Then) (more : List Deed) → are_allowed read now journal more ≡ true
+    → are_allowed read now journal (asked node last ++ more) ≡ true
+asked_fits read now journal node Done more fits = fits
+asked_fits read now journal node (Next talk n) more fits = fits
+asked_fits read now journal node (Undo role talk key why) more fits = fits
+asked_fits read now journal node (Push talk key) more fits = fits
+asked_fits read now journal node (Offered talk key name interval) more fits = fits
+asked_fits read now journal node (Onto role talk key a) more fits = fits
+asked_fits read now journal node (Piece role talk key source offset) more fits = fits
+
+-- all parts, where the first one may follow
+parts_fit : (more : ℕ) (node : Node) → HavePriorities node.config.read → (sid : ℕ) (answers : Answers) (part : Part)
+    → is_legal node.config.read node.journal ≡ true → latest node.journal ≤ answers.now
+    → are_allowed node.config.read answers.now node.journal part.deeds ≡ true
+    → are_allowed node.config.read answers.now node.journal (all_parts more node sid answers part) ≡ true
+unfolding all_parts
+parts_fit zero node priorities sid answers part legal early fits = fits
+parts_fit (suc more) node priorities sid answers part legal early fits =
+    let after : Node = does sid part.deeds node in
+    let same : after.config ≡ node.config = same_config sid part.deeds node in
+    let whole : are_allowed node.config.read answers.now node.journal (part.deeds ++ []) ≡ true = subst (λ (deeds : List Deed). are_allowed node.config.read answers.now node.journal deeds ≡ true) (sym (append-nil part.deeds)) fits in
+    let legal2 : is_legal after.config.read after.journal ≡ true = subst (λ (config : Config). is_legal config.read after.journal ≡ true) (sym same) (part_legal sid answers.now part.deeds [] node legal whole) in
+    let early2 : latest after.journal ≤ answers.now = part_on_time sid answers.now part.deeds [] node early whole in
+    let priorities2 : HavePriorities after.config.read = subst (λ (config : Config). HavePriorities config.read) (sym same) priorities in
+    let following : Part = checked after answers.now (after.phase sid) (part_behind after answers.now (after.phase sid) answers part.later) in
+    let rest : are_allowed after.config.read answers.now after.journal (all_parts more after sid answers following) ≡ true =
+    parts_fit more after priorities2 sid answers following legal2 early2 (checked_fits after priorities2 legal2 answers.now early2 (after.phase sid) (part_behind after answers.now (after.phase sid) answers part.later)) in
+    let rest2 : are_allowed node.config.read answers.now after.journal (all_parts more after sid answers following) ≡ true = subst (λ (config : Config). are_allowed config.read answers.now after.journal (all_parts more after sid answers following) ≡ true) same rest in
+    both_fit sid answers.now node.config.read part.deeds _ node fits
+    (either (is_done part.later) (asked after part.later ++ all_parts more after sid answers following) (asked_fits node.config.read answers.now after.journal after part.later _ rest2))
+  where
+    either : (b : Bool) (deeds : List Deed) → are_allowed node.config.read answers.now (does sid part.deeds node).journal deeds ≡ true
+        → are_allowed node.config.read answers.now (does sid part.deeds node).journal (cond b [] deeds) ≡ true
+    either true deeds h = refl
+    either false deeds h = h
+
+stays : (sid now : ℕ) (node : Node) (deeds : List Deed) → is_legal node.config.read node.journal ≡ true → latest node.journal ≤ now → are_allowed node.config.read now node.journal deeds ≡ true
+    → StaysLegal sid now node deeds
+stays sid now node deeds legal early fits done more split =
+    let parts : are_allowed node.config.read now node.journal (done ++ more) ≡ true = subst (λ (all : List Deed). are_allowed node.config.read now node.journal all ≡ true) split fits in
+    record {
+      legal = part_legal sid now done more node legal parts;
+      later = (part_extends sid done node).0;
+      extends = (part_extends sid done node).1;
+      on_time = part_on_time sid now done more node early parts;
+    }
+
+first_fits : (node : Node) → HavePriorities node.config.read → (sid now : ℕ) (m : Message)
+    → is_legal node.config.read node.journal ≡ true → latest node.journal ≤ now → are_allowed node.config.read now node.journal (first_part node now sid m).deeds ≡ true
+first_fits node priorities sid now m legal early =
+    elim (is_dead node (own_number (node.phase sid)) || is_detached node sid (key_under_way (node.phase sid))) as (λ b. are_allowed node.config.read now node.journal (cond b (only (close node now (node.phase sid))) (checked node now (node.phase sid) (part_in node now sid m (node.phase sid)))).deeds ≡ true) [
+      | true ↦ close_fits node priorities legal now early (node.phase sid)
+      | false ↦ checked_fits node priorities legal now early (node.phase sid) (part_in node now sid m (node.phase sid))
     ]
 
-stays : (sid : ℕ) (node : Node) (deeds : List Deed) → is_legal node.config.read node.journal ≡ true → are_allowed node.config.read node.journal deeds ≡ true
-    → StaysLegal sid node deeds
-stays sid node deeds legal fits done more split = record {
-  legal = part_legal sid done more node legal (subst (λ (all : List Deed). are_allowed node.config.read node.journal all ≡ true) split fits);
-  later = (part_extends sid done node).0;
-  extends = (part_extends sid done node).1;
-}
-
 pub row_stays : (node : Node) → HavePriorities node.config.read → (sid : ℕ) (answers : Answers) (m : Message)
-    → is_legal node.config.read node.journal ≡ true → latest node.journal ≤ answers.now → StaysLegal sid node (row node sid answers m)
-row_stays node priorities sid answers m legal on_time =
-    let closed : are_allowed node.config.read node.journal (close node answers.now (node.phase sid)) ≡ true = close_fits node priorities legal answers.now on_time (node.phase sid) in
-    let gone : Bool = is_dead node (own_number (node.phase sid)) || is_detached node sid (key_under_way (node.phase sid)) in
-    let fits : are_allowed node.config.read node.journal (row node sid answers m) ≡ true =
-    elim gone as (λ b. are_allowed node.config.read node.journal (cond b (close node answers.now (node.phase sid)) (checked node (row_in node sid answers m (node.phase sid)) (close node answers.now (node.phase sid)))) ≡ true) [
-      | true ↦ closed
-      | false ↦ checked_fits node (row_in node sid answers m (node.phase sid)) (close node answers.now (node.phase sid)) closed
-    ] in
-    stays sid node (row node sid answers m) legal fits
+    → is_legal node.config.read node.journal ≡ true → latest node.journal ≤ answers.now → StaysLegal sid answers.now node (row node sid answers m)
+row_stays node priorities sid answers m legal early =
+    stays sid answers.now node (row node sid answers m) legal early
+    (parts_fit most_parts node priorities sid answers (first_part node answers.now sid m) legal early (first_fits node priorities sid answers.now m legal early))
 
 pub row_end_stays : (node : Node) → HavePriorities node.config.read → (sid now : ℕ)
-    → is_legal node.config.read node.journal ≡ true → latest node.journal ≤ now → StaysLegal sid node (row_end node sid now)
-row_end_stays node priorities sid now legal on_time = stays sid node (row_end node sid now) legal (close_fits node priorities legal now on_time (node.phase sid))
+    → is_legal node.config.read node.journal ≡ true → latest node.journal ≤ now → StaysLegal sid now node (row_end node sid now)
+row_end_stays node priorities sid now legal early = stays sid now node (row_end node sid now) legal early (close_fits node priorities legal now early (node.phase sid))
 
 pub row_trouble_stays : (node : Node) → HavePriorities node.config.read → (sid now : ℕ)
-    → is_legal node.config.read node.journal ≡ true → latest node.journal ≤ now → StaysLegal sid node (row_trouble node sid now)
-row_trouble_stays node priorities sid now legal on_time = stays sid node (row_trouble node sid now) legal (trouble_fits node priorities legal now on_time (node.phase sid))
+    → is_legal node.config.read node.journal ≡ true → latest node.journal ≤ now → StaysLegal sid now node (row_trouble node sid now)
+row_trouble_stays node priorities sid now legal early = stays sid now node (row_trouble node sid now) legal early (trouble_fits node priorities legal now early (node.phase sid))

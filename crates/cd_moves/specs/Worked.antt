@@ -20,7 +20,10 @@ use Rattle.cd_frames.specs.Message as message
 use Rattle.cd_frames.specs.Message.{Message}
 use Rattle.cd_outside.specs.Shelf.{settled_shelf}
 use Rattle.cd_status.specs.Queue.{Waits}
-use Rattle.cd_moves.specs.Node.{Source, Phase, Gone, Await, Send, Config, Node, Deed, does, sends, Answers}
+use Rattle.cd_moves.specs.declared.session.Source.{Source}
+use Rattle.cd_moves.specs.declared.session.Phase.{Phase}
+use Rattle.cd_moves.specs.declared.session.Phase.TheVariants.{Gone, Await, Offer, Send}
+use Rattle.cd_moves.specs.Node.{Config, Node, Deed, does, sends, Answers}
 use Rattle.cd_pieces.specs.Piece.{piece_end}
 use Rattle.cd_moves.specs.Rows.{row, row_accept, row_choose, opened}
 

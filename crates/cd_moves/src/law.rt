@@ -12,9 +12,9 @@ ghost use Rattle.cd_moves.specs.Rows.{row, row_end, row_trouble};
 /// session ends, and where a file can't be asked or changed. The clock's moment isn't earlier than the journal's.
 pub fn law_of_rows()
     ensures frame { (node : Node) → HavePriorities node.config.read → (sid : ℕ) (answers : Answers) (m : Message)
-        → is_legal node.config.read node.journal ≡ true → latest node.journal ≤ answers.now → StaysLegal sid node (row node sid answers m) }
+        → is_legal node.config.read node.journal ≡ true → latest node.journal ≤ answers.now → StaysLegal sid answers.now node (row node sid answers m) }
     ensures end { (node : Node) → HavePriorities node.config.read → (sid now : ℕ)
-        → is_legal node.config.read node.journal ≡ true → latest node.journal ≤ now → StaysLegal sid node (row_end node sid now) }
+        → is_legal node.config.read node.journal ≡ true → latest node.journal ≤ now → StaysLegal sid now node (row_end node sid now) }
     ensures trouble { (node : Node) → HavePriorities node.config.read → (sid now : ℕ)
-        → is_legal node.config.read node.journal ≡ true → latest node.journal ≤ now → StaysLegal sid node (row_trouble node sid now) }
+        → is_legal node.config.read node.journal ≡ true → latest node.journal ≤ now → StaysLegal sid now node (row_trouble node sid now) }
 {}

@@ -2,7 +2,9 @@
 #![tactic(auto)]
 
 mod law;
+mod session;
 mod worked;
 
 pub use law::law_of_rows;
+pub use session::{Announced, Phase, Source, Talk, Then};
 pub use worked::{worked_ends, worked_pieces, worked_push};
