@@ -11,7 +11,7 @@ use Rattle.cd_status.specs.Processes.{Submission, submission, is_live}
 use Rattle.cd_status.specs.Queue.{Waits, placing, queue_at, runs_in, retried}
 use Rattle.cd_moves.specs.declared.session.Phase.{Phase}
 use Rattle.cd_moves.specs.declared.session.Phase.TheVariants.{Gone, Greet, Await, Ask, Fresh, Ready, Offer, Send, Take}
-use Rattle.cd_moves.specs.Node.{Node, Deed, Keep, Go}
+use Rattle.cd_moves.specs.Node.{Desk, Deed, Keep, Go}
 
 -- What a session knows.
 
@@ -49,29 +49,29 @@ abbrev pub waits_or_default : Option Waits → Waits
 waits_or_default None = default_waits
 waits_or_default (Some waits) = waits
 
-abbrev pub waits_for : Node → Option Submission → Waits
-waits_for node None = default_waits
-waits_for node (Some s) = waits_or_default (node.config.partner s.card.snode)
+abbrev pub waits_for : Desk → Option Submission → Waits
+waits_for desk None = default_waits
+waits_for desk (Some s) = waits_or_default (desk.config.partner s.card.snode)
 
-abbrev pub retry : Node → ℕ → ℕ → Option Placing → List Deed
-retry node now n None = []
-retry node now n (Some placed) =
-    if is_live node.journal n && is_running now placed
-    then Keep (entry.Placed n (retried (waits_for node (submission node.journal n)) now placed) now) ∷ []
+abbrev pub retry : Desk → ℕ → ℕ → Option Placing → List Deed
+retry desk now n None = []
+retry desk now n (Some placed) =
+    if is_live desk.journal n && is_running now placed
+    then Keep (entry.Placed n (retried (waits_for desk (submission desk.journal n)) now placed) now) ∷ []
     else []
 
-abbrev pub retry_own : Node → ℕ → Option ℕ → List Deed
-retry_own node now None = []
-retry_own node now (Some n) = retry node now n (placing node.journal n)
+abbrev pub retry_own : Desk → ℕ → Option ℕ → List Deed
+retry_own desk now None = []
+retry_own desk now (Some n) = retry desk now n (placing desk.journal n)
 
 -- the session is closed, or lost
-abbrev pub close : Node → ℕ → Phase → List Deed
-close node now phase = retry_own node now (own_number phase) ++ Go Gone [] ∷ []
+abbrev pub close : Desk → ℕ → Phase → List Deed
+close desk now phase = retry_own desk now (own_number phase) ++ Go Gone [] ∷ []
 
 -- a file couldn't be asked or changed: the partner is told, and then the session is lost
 abbrev pub trouble_for : Option Key → List Message
 trouble_for None = []
 trouble_for (Some key) = message.Abort key cause.Trouble ∷ []
 
-abbrev pub trouble : Node → ℕ → Phase → List Deed
-trouble node now phase = Go phase (trouble_for (key_under_way phase)) ∷ close node now phase
+abbrev pub trouble : Desk → ℕ → Phase → List Deed
+trouble desk now phase = Go phase (trouble_for (key_under_way phase)) ∷ close desk now phase

@@ -4,5 +4,6 @@ pub mod Promises
 pub mod Receiving
 pub mod Rows
 pub mod RowsLaw
+pub mod Seen
 pub mod Sending
 pub mod Worked

@@ -17,15 +17,22 @@ pub record Config : Type 0 where
   pub partner : List ℕ → Option Waits
   pub read : Reading
 
--- The journal has its newest entry first. The sessions are numbered as they came; each has its phase. A key is held by
--- the session on which its step was last taken, until it is taken from it.
-pub record Node : Type 0 where
+-- What a node has recorded, and what it is set up with. The journal has its newest entry first.
+pub record Desk : Type 0 where
   pub config : Config
   pub journal : List Entry
-  pub shelf : Shelf
+
+-- The sessions are numbered as they came; each has its phase. A key is held by the session on which its step was last taken,
+-- until it is taken from it.
+pub record Sessions : Type 0 where
   pub sids : List ℕ
   pub phase : ℕ → Phase
   pub holder : Key → Option ℕ
+
+pub record Node : Type 0 where
+  pub desk : Desk
+  pub shelf : Shelf
+  pub sessions : Sessions
 
 -- the same but at one place
 abbrev pub put : {I A : Type 0} → (I → I → Bool) → I → A → (I → A) → I → A
@@ -48,19 +55,22 @@ pub data Deed : Type 0 where
   Go : Phase → List Message → Deed
 
 -- what a deed of a session makes of the node
-abbrev pub recorded : Entry → Node → Node
-recorded e node = record node { journal = e ∷ node.journal }
+abbrev pub recorded : Entry → Desk → Desk
+recorded e desk = record desk { journal = e ∷ desk.journal }
 
-abbrev pub in_phase : ℕ → Phase → Node → Node
-in_phase sid phase node = record node { phase = put (λ a b. a == b) sid phase node.phase }
+abbrev pub in_phase : ℕ → Phase → Sessions → Sessions
+in_phase sid phase sessions = record sessions { phase = put (λ a b. a == b) sid phase sessions.phase }
+
+abbrev pub held_by : Key → ℕ → Sessions → Sessions
+held_by key sid sessions = record sessions { holder = put same_key key (Some sid) sessions.holder }
 
 abbrev pub did : ℕ → Deed → Node → Node
-did sid (Keep e) node = recorded e node
+did sid (Keep e) node = record node { desk = recorded e node.desk }
 did sid (Touch change) node = record node { shelf = changed change node.shelf }
 did sid (AskSize name) node = node
 did sid (AskBytes name at len) node = node
-did sid (Begin key phase) node = in_phase sid phase (record node { holder = put same_key key (Some sid) node.holder })
-did sid (Go phase frames) node = in_phase sid phase node
+did sid (Begin key phase) node = record node { sessions = in_phase sid phase (held_by key sid node.sessions) }
+did sid (Go phase frames) node = record node { sessions = in_phase sid phase node.sessions }
 
 -- what a row of deeds makes of it
 abbrev pub does : ℕ → List Deed → Node → Node

@@ -7,10 +7,10 @@ use Rattle.cd_moves.specs.Node.{Node, Deed, does}
 
 -- after these deeds of a session the journal is legal, has the earlier one behind its new entries, and no moment later than now
 pub record IsLegalAfter (sid now : ℕ) (node : Node) (done : List Deed) : Type 0 where
-  pub legal : is_legal node.config.read (does sid done node).journal ≡ true
+  pub legal : is_legal node.desk.config.read (does sid done node).desk.journal ≡ true
   pub later : List Entry
-  pub extends : (does sid done node).journal ≡ later ++ node.journal
-  pub on_time : latest (does sid done node).journal ≤ now
+  pub extends : (does sid done node).desk.journal ≡ later ++ node.desk.journal
+  pub on_time : latest (does sid done node).desk.journal ≤ now
 
 -- so it is after each first part of a row, and after all of it
 abbrev pub StaysLegal : ℕ → ℕ → Node → List Deed → Type 0

@@ -23,7 +23,7 @@ use Rattle.cd_moves.specs.declared.session.Announced.{Announced}
 use Rattle.cd_moves.specs.declared.session.Phase.{Phase}
 use Rattle.cd_moves.specs.declared.session.Phase.TheVariants.{Ready, Take}
 use Rattle.cd_moves.specs.declared.session.Then.TheVariants.{Undo, Onto}
-use Rattle.cd_moves.specs.Node.{Node, Deed, Keep, Touch, Go, Part, only, behind}
+use Rattle.cd_moves.specs.Node.{Desk, Deed, Keep, Touch, Go, Part, only, behind}
 use Rattle.cd_moves.specs.Closing.{close}
 use Rattle.cd_moves.specs.Sending.{settled}
 
@@ -49,10 +49,10 @@ undo r disp.Mod = if r.there then CutFile r.name r.base else RemoveFile r.name
 abbrev pub drop_back : Side → Talk → Key → Cause → Part
 drop_back role talk key why = record { deeds = Keep (entry.Mark key 0) ∷ []; later = Undo role talk key why }
 
-abbrev pub undone : Node → ℕ → Phase → Side → Talk → Key → Cause → Status → Part
-undone node now phase role talk key why (status.Open r safe) =
+abbrev pub undone : Desk → ℕ → Phase → Side → Talk → Key → Cause → Status → Part
+undone desk now phase role talk key why (status.Open r safe) =
     behind (Touch (undo r r.disp)) (behind (Touch (SyncFile r.name)) (behind (Keep (entry.Dropped key 8 why now)) (settled role talk key (failed why))))
-undone node now phase role talk key why _ = only (close node now phase)
+undone desk now phase role talk key why _ = only (close desk now phase)
 
 -- the sender gave up: an open receiving is dropped back, else the step has its cause
 abbrev pub given_up : Side → Talk → Key → Cause → ℕ → Status → Part
@@ -72,24 +72,24 @@ abbrev pub is_same_receiving : Receiving → Announced → Bool
 is_same_receiving r a = bytes_eq r.name a.name && disp_code r.disp == disp_code a.disp && r.interval == a.interval
 
 -- of a receiving that is open: the same goes on, with another length from its beginning on
-abbrev pub receive_again : Node → ℕ → Phase → Side → Talk → Receiving → ℕ → Announced → Part
-receive_again node now phase role talk r safe a =
-    if not (is_same_receiving r a) then only (close node now phase)
+abbrev pub receive_again : Desk → ℕ → Phase → Side → Talk → Receiving → ℕ → Announced → Part
+receive_again desk now phase role talk r safe a =
+    if not (is_same_receiving r a) then only (close desk now phase)
     else if a.length == r.length then resume role talk r safe
     else if nat_le (r.base + a.length) greatest_file then receive_anew role talk (record r { length = a.length })
     else drop_back role talk r.key cause.TooLarge
 
 -- of a step that is new: the file must be free
-abbrev pub receive_first : Node → ℕ → Side → Talk → Key → Announced → Part
-receive_first node now role talk key a =
-    if is_in_use node.journal key a.name then answer role talk key (failed cause.InUse) now else record { deeds = []; later = Onto role talk key a }
+abbrev pub receive_first : Desk → ℕ → Side → Talk → Key → Announced → Part
+receive_first desk now role talk key a =
+    if is_in_use desk.journal key a.name then answer role talk key (failed cause.InUse) now else record { deeds = []; later = Onto role talk key a }
 
-abbrev pub receive_from : Node → ℕ → Phase → Side → Talk → Key → Announced → Status → Part
-receive_from node now phase role talk key a (status.Open r safe) = receive_again node now phase role talk r safe a
-receive_from node now phase role talk key a _ = receive_first node now role talk key a
+abbrev pub receive_from : Desk → ℕ → Phase → Side → Talk → Key → Announced → Status → Part
+receive_from desk now phase role talk key a (status.Open r safe) = receive_again desk now phase role talk r safe a
+receive_from desk now phase role talk key a _ = receive_first desk now role talk key a
 
-abbrev pub receive : Node → ℕ → Phase → Side → Talk → Key → Announced → Part
-receive node now phase role talk key a = receive_from node now phase role talk key a (status.status node.journal key)
+abbrev pub receive : Desk → ℕ → Phase → Side → Talk → Key → Announced → Part
+receive desk now phase role talk key a = receive_from desk now phase role talk key a (status.status desk.journal key)
 
 -- how many bytes of the old file stay: all of them with MOD
 abbrev pub kept_base : Disp → Option ℕ → ℕ

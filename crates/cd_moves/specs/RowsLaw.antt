@@ -21,9 +21,9 @@ use Rattle.cd_moves.specs.declared.session.Phase.{Phase}
 use Rattle.cd_moves.specs.declared.session.Phase.TheVariants.{Gone}
 use Rattle.cd_moves.specs.declared.session.Then.{Then}
 use Rattle.cd_moves.specs.declared.session.Then.TheVariants.{Done, Next, Undo, Push, Offered, Onto, Piece}
-use Rattle.cd_moves.specs.Node.{Config, Node, Deed, Keep, Touch, AskSize, AskBytes, Begin, Go, Part, only, recorded, did, does, Answers}
-use Rattle.cd_moves.specs.Rows.{is_by, are_allowed, checked, part_in, first_part, part_behind, asked, is_done, all_parts, most_parts, row, row_end, row_trouble, is_dead, is_detached}
-use Rattle.cd_moves.specs.Promises.{StaysLegal}
+use Rattle.cd_moves.specs.Node.{Config, Desk, Sessions, Node, Deed, Keep, Touch, AskSize, AskBytes, Begin, Go, Part, only, did, does, Answers}
+use Rattle.cd_moves.specs.Rows.{is_by, are_allowed, checked, part_in, first_part, part_behind, asked, is_done, all_parts, most_parts, row, row_accept, row_end, row_trouble, is_dead, is_detached}
+use Rattle.cd_moves.specs.Promises.{IsLegalAfter, StaysLegal}
 
 -- A journal into which a row was recorded.
 
@@ -52,12 +52,12 @@ kept_fits : (read : Reading) (now : ℕ) (journal : List Entry) (e : Entry) (dee
 kept_fits read now journal e deeds fits by rest = and_from (allowed read journal e && is_by now (moment_of e)) _ (and_from (allowed read journal e) _ fits by) rest
 
 -- each part of a row whose entries may follow leaves a legal journal
-part_legal : (sid now : ℕ) (done more : List Deed) (node : Node) → is_legal node.config.read node.journal ≡ true
-    → are_allowed node.config.read now node.journal (done ++ more) ≡ true → is_legal node.config.read (does sid done node).journal ≡ true
+part_legal : (sid now : ℕ) (done more : List Deed) (node : Node) → is_legal node.desk.config.read node.desk.journal ≡ true
+    → are_allowed node.desk.config.read now node.desk.journal (done ++ more) ≡ true → is_legal node.desk.config.read (does sid done node).desk.journal ≡ true
 part_legal sid now [] more node legal fits = legal
 part_legal sid now (Keep e ∷ done) more node legal fits =
-    let parts = kept_parts node.config.read now node.journal e (done ++ more) fits in
-    part_legal sid now done more (recorded e node) (legal_more node.config.read e node.journal legal parts.0) parts.2
+    let parts = kept_parts node.desk.config.read now node.desk.journal e (done ++ more) fits in
+    part_legal sid now done more (did sid (Keep e) node) (legal_more node.desk.config.read e node.desk.journal legal parts.0) parts.2
 part_legal sid now (Touch change ∷ done) more node legal fits = part_legal sid now done more (did sid (Touch change) node) legal fits
 part_legal sid now (AskSize name ∷ done) more node legal fits = part_legal sid now done more node legal fits
 part_legal sid now (AskBytes name at len ∷ done) more node legal fits = part_legal sid now done more node legal fits
@@ -65,12 +65,12 @@ part_legal sid now (Begin key phase ∷ done) more node legal fits = part_legal 
 part_legal sid now (Go phase frames ∷ done) more node legal fits = part_legal sid now done more (did sid (Go phase frames) node) legal fits
 
 -- one without a later moment
-part_on_time : (sid now : ℕ) (done more : List Deed) (node : Node) → latest node.journal ≤ now
-    → are_allowed node.config.read now node.journal (done ++ more) ≡ true → latest (does sid done node).journal ≤ now
+part_on_time : (sid now : ℕ) (done more : List Deed) (node : Node) → latest node.desk.journal ≤ now
+    → are_allowed node.desk.config.read now node.desk.journal (done ++ more) ≡ true → latest (does sid done node).desk.journal ≤ now
 part_on_time sid now [] more node early fits = early
 part_on_time sid now (Keep e ∷ done) more node early fits =
-    let parts = kept_parts node.config.read now node.journal e (done ++ more) fits in
-    part_on_time sid now done more (recorded e node) (latest_more e node.journal now parts.1 early) parts.2
+    let parts = kept_parts node.desk.config.read now node.desk.journal e (done ++ more) fits in
+    part_on_time sid now done more (did sid (Keep e) node) (latest_more e node.desk.journal now parts.1 early) parts.2
 part_on_time sid now (Touch change ∷ done) more node early fits = part_on_time sid now done more (did sid (Touch change) node) early fits
 part_on_time sid now (AskSize name ∷ done) more node early fits = part_on_time sid now done more node early fits
 part_on_time sid now (AskBytes name at len ∷ done) more node early fits = part_on_time sid now done more node early fits
@@ -78,11 +78,11 @@ part_on_time sid now (Begin key phase ∷ done) more node early fits = part_on_t
 part_on_time sid now (Go phase frames ∷ done) more node early fits = part_on_time sid now done more (did sid (Go phase frames) node) early fits
 
 -- and one that has the earlier one behind it
-part_extends : (sid : ℕ) (done : List Deed) (node : Node) → (later : List Entry) × ((does sid done node).journal ≡ later ++ node.journal)
+part_extends : (sid : ℕ) (done : List Deed) (node : Node) → (later : List Entry) × ((does sid done node).desk.journal ≡ later ++ node.desk.journal)
 part_extends sid [] node = ([], refl)
 part_extends sid (Keep e ∷ done) node =
-    let rest = part_extends sid done (recorded e node) in
-    (rest.0 ++ e ∷ [], rest.1 ∙ moved rest.0 e node.journal) where
+    let rest = part_extends sid done (did sid (Keep e) node) in
+    (rest.0 ++ e ∷ [], rest.1 ∙ moved rest.0 e node.desk.journal) where
       moved : (later : List Entry) (e : Entry) (journal : List Entry) → later ++ e ∷ journal ≡ (later ++ e ∷ []) ++ journal
       moved [] e journal = refl
       moved (x ∷ later) e journal = ap (λ (rest : List Entry). x ∷ rest) (moved later e journal)
@@ -93,9 +93,9 @@ part_extends sid (Begin key phase ∷ done) node = part_extends sid done (did si
 part_extends sid (Go phase frames ∷ done) node = part_extends sid done (did sid (Go phase frames) node)
 
 -- the texts are read as before
-same_config : (sid : ℕ) (done : List Deed) (node : Node) → (does sid done node).config ≡ node.config
+same_config : (sid : ℕ) (done : List Deed) (node : Node) → (does sid done node).desk.config ≡ node.desk.config
 same_config sid [] node = refl
-same_config sid (Keep e ∷ done) node = same_config sid done (recorded e node)
+same_config sid (Keep e ∷ done) node = same_config sid done (did sid (Keep e) node)
 same_config sid (Touch change ∷ done) node = same_config sid done (did sid (Touch change) node)
 same_config sid (AskSize name ∷ done) node = same_config sid done node
 same_config sid (AskBytes name at len ∷ done) node = same_config sid done node
@@ -103,12 +103,12 @@ same_config sid (Begin key phase ∷ done) node = same_config sid done (did sid 
 same_config sid (Go phase frames ∷ done) node = same_config sid done (did sid (Go phase frames) node)
 
 -- entries that may follow, and behind them others that may
-both_fit : (sid now : ℕ) (read : Reading) (first second : List Deed) (node : Node) → are_allowed read now node.journal first ≡ true
-    → are_allowed read now (does sid first node).journal second ≡ true → are_allowed read now node.journal (first ++ second) ≡ true
+both_fit : (sid now : ℕ) (read : Reading) (first second : List Deed) (node : Node) → are_allowed read now node.desk.journal first ≡ true
+    → are_allowed read now (does sid first node).desk.journal second ≡ true → are_allowed read now node.desk.journal (first ++ second) ≡ true
 both_fit sid now read [] second node fits more = more
 both_fit sid now read (Keep e ∷ first) second node fits more =
-    let parts = kept_parts read now node.journal e first fits in
-    kept_fits read now node.journal e (first ++ second) parts.0 parts.1 (both_fit sid now read first second (recorded e node) parts.2 more)
+    let parts = kept_parts read now node.desk.journal e first fits in
+    kept_fits read now node.desk.journal e (first ++ second) parts.0 parts.1 (both_fit sid now read first second (did sid (Keep e) node) parts.2 more)
 both_fit sid now read (Touch change ∷ first) second node fits more = both_fit sid now read first second (did sid (Touch change) node) fits more
 both_fit sid now read (AskSize name ∷ first) second node fits more = both_fit sid now read first second node fits more
 both_fit sid now read (AskBytes name at len ∷ first) second node fits more = both_fit sid now read first second node fits more
@@ -146,104 +146,104 @@ retried_prty waits now attempts prty =
     let P : Placing → Type 0 = λ p. p.prty ≡ prty in
     either_placing (leb attempts waits.short_attempts) _ _ P refl (either_placing (leb attempts (waits.short_attempts + waits.long_attempts)) _ _ P refl refl)
 
-module _ (node : Node) (priorities : HavePriorities node.config.read) (legal : is_legal node.config.read node.journal ≡ true) (now : ℕ) (on_time : latest node.journal ≤ now) where
-  retry_allowed : (n : ℕ) (placed : Placing) (waits : Waits) → placing node.journal n ≡ Some placed → is_live node.journal n ≡ true → is_running now placed ≡ true
-      → allowed node.config.read node.journal (entry.Placed n (retried waits now placed) now) ≡ true
+module _ (desk : Desk) (priorities : HavePriorities desk.config.read) (legal : is_legal desk.config.read desk.journal ≡ true) (now : ℕ) (on_time : latest desk.journal ≤ now) where
+  retry_allowed : (n : ℕ) (placed : Placing) (waits : Waits) → placing desk.journal n ≡ Some placed → is_live desk.journal n ≡ true → is_running now placed ≡ true
+      → allowed desk.config.read desk.journal (entry.Placed n (retried waits now placed) now) ≡ true
   unfolding allowed
   retry_allowed n placed waits is live runs =
-      let well : WellPlaced (runs_itself node.journal n) placed = well_placed node.config.read priorities node.journal n placed legal is in
+      let well : WellPlaced (runs_itself desk.journal n) placed = well_placed desk.config.read priorities desk.journal n placed legal is in
       let again : Placing = retried waits now placed in
       let prty : again.prty ≡ placed.prty = retried_prty waits now (min (placed.attempts + 1) 65535) placed.prty in
       let why : is_reason_in again.queue again.reason ≡ true = retried_reason waits now (min (placed.attempts + 1) 65535) placed.prty in
-      let itself : runs_itself node.journal n ≡ true =
-      elim (or_cases (runs_itself node.journal n) (is_hold placed.queue) well.held) [
+      let itself : runs_itself desk.journal n ≡ true =
+      elim (or_cases (runs_itself desk.journal n) (is_hold placed.queue) well.held) [
         | inl runs_it ↦ runs_it
         | inr held ↦ absurd (false≢true (sym (not_held now placed runs) ∙ held))
       ] in
       let low : leb 1 again.prty ≡ true = le-leb 1 again.prty (omega (arith, prty, well.low)) in
       let high : leb again.prty 15 ≡ true = le-leb again.prty 15 (omega (arith, prty, well.high)) in
-      let place : may_place node.journal n again ≡ true =
-      and_from _ _ (and_from _ _ (and_from _ _ (and_from _ _ live why) low) high) (or_left (runs_itself node.journal n) (is_hold again.queue) itself) in
-      and_from _ _ (and_from _ _ (not_empty node.journal n live) (le-leb (latest node.journal) now on_time)) place
+      let place : may_place desk.journal n again ≡ true =
+      and_from _ _ (and_from _ _ (and_from _ _ (and_from _ _ live why) low) high) (or_left (runs_itself desk.journal n) (is_hold again.queue) itself) in
+      and_from _ _ (and_from _ _ (not_empty desk.journal n live) (le-leb (latest desk.journal) now on_time)) place
 
-  retry_fits : (n : ℕ) (found : Option Placing) (last : Deed) → placing node.journal n ≡ found → are_allowed node.config.read now node.journal (last ∷ []) ≡ true
-      → ((journal : List Entry) → are_allowed node.config.read now journal (last ∷ []) ≡ true)
-      → are_allowed node.config.read now node.journal (retry node now n found ++ last ∷ []) ≡ true
+  retry_fits : (n : ℕ) (found : Option Placing) (last : Deed) → placing desk.journal n ≡ found → are_allowed desk.config.read now desk.journal (last ∷ []) ≡ true
+      → ((journal : List Entry) → are_allowed desk.config.read now journal (last ∷ []) ≡ true)
+      → are_allowed desk.config.read now desk.journal (retry desk now n found ++ last ∷ []) ≡ true
   retry_fits n None last is plain always = plain
   retry_fits n (Some placed) last is plain always =
-      elim (cases_Bool (is_live node.journal n && is_running now placed)) [
+      elim (cases_Bool (is_live desk.journal n && is_running now placed)) [
         | inl runs ↦
-            let parts = and_parts (is_live node.journal n) (is_running now placed) runs in
-            let e : Entry = entry.Placed n (retried (waits_for node (submission node.journal n)) now placed) now in
-            let kept : are_allowed node.config.read now node.journal (Keep e ∷ last ∷ []) ≡ true =
-            kept_fits node.config.read now node.journal e (last ∷ [])
-            (retry_allowed n placed (waits_for node (submission node.journal n)) is parts.0 parts.1) (le-leb now now (omega arith)) (always (e ∷ node.journal)) in
-            subst (λ (deeds : List Deed). are_allowed node.config.read now node.journal (deeds ++ last ∷ []) ≡ true)
-            (sym (cond-true (is_live node.journal n && is_running now placed) (Keep e ∷ []) [] runs)) kept
+            let parts = and_parts (is_live desk.journal n) (is_running now placed) runs in
+            let e : Entry = entry.Placed n (retried (waits_for desk (submission desk.journal n)) now placed) now in
+            let kept : are_allowed desk.config.read now desk.journal (Keep e ∷ last ∷ []) ≡ true =
+            kept_fits desk.config.read now desk.journal e (last ∷ [])
+            (retry_allowed n placed (waits_for desk (submission desk.journal n)) is parts.0 parts.1) (le-leb now now (omega arith)) (always (e ∷ desk.journal)) in
+            subst (λ (deeds : List Deed). are_allowed desk.config.read now desk.journal (deeds ++ last ∷ []) ≡ true)
+            (sym (cond-true (is_live desk.journal n && is_running now placed) (Keep e ∷ []) [] runs)) kept
         | inr rests ↦
-            subst (λ (deeds : List Deed). are_allowed node.config.read now node.journal (deeds ++ last ∷ []) ≡ true)
-            (sym (cond-false (is_live node.journal n && is_running now placed) _ [] rests)) plain
+            subst (λ (deeds : List Deed). are_allowed desk.config.read now desk.journal (deeds ++ last ∷ []) ≡ true)
+            (sym (cond-false (is_live desk.journal n && is_running now placed) _ [] rests)) plain
       ]
 
-  end_fits : (own : Option ℕ) (frames : List Message) → are_allowed node.config.read now node.journal (retry_own node now own ++ Go Gone frames ∷ []) ≡ true
+  end_fits : (own : Option ℕ) (frames : List Message) → are_allowed desk.config.read now desk.journal (retry_own desk now own ++ Go Gone frames ∷ []) ≡ true
   end_fits None frames = refl
-  end_fits (Some n) frames = retry_fits n (placing node.journal n) (Go Gone frames) refl refl (λ _. refl)
+  end_fits (Some n) frames = retry_fits n (placing desk.journal n) (Go Gone frames) refl refl (λ _. refl)
 
-  close_fits : (phase : Phase) → are_allowed node.config.read now node.journal (close node now phase) ≡ true
+  close_fits : (phase : Phase) → are_allowed desk.config.read now desk.journal (close desk now phase) ≡ true
   close_fits phase = end_fits (own_number phase) []
 
-  trouble_fits : (phase : Phase) → are_allowed node.config.read now node.journal (trouble node now phase) ≡ true
+  trouble_fits : (phase : Phase) → are_allowed desk.config.read now desk.journal (trouble desk now phase) ≡ true
   trouble_fits phase = close_fits phase
 
   -- a part whose entries may follow, or else the end
-  checked_fits : (phase : Phase) (part : Part) → are_allowed node.config.read now node.journal (checked node now phase part).deeds ≡ true
+  checked_fits : (phase : Phase) (part : Part) → are_allowed desk.config.read now desk.journal (checked desk now phase part).deeds ≡ true
   checked_fits phase part =
-      elim (cases_Bool (are_allowed node.config.read now node.journal part.deeds)) [
-        | inl fits ↦ subst (λ (chosen : Part). are_allowed node.config.read now node.journal chosen.deeds ≡ true) (sym (cond-true (are_allowed node.config.read now node.journal part.deeds) part (only (close node now phase)) fits)) fits
-        | inr not_fits ↦ subst (λ (chosen : Part). are_allowed node.config.read now node.journal chosen.deeds ≡ true) (sym (cond-false (are_allowed node.config.read now node.journal part.deeds) part (only (close node now phase)) not_fits)) (close_fits phase)
+      elim (cases_Bool (are_allowed desk.config.read now desk.journal part.deeds)) [
+        | inl fits ↦ subst (λ (chosen : Part). are_allowed desk.config.read now desk.journal chosen.deeds ≡ true) (sym (cond-true (are_allowed desk.config.read now desk.journal part.deeds) part (only (close desk now phase)) fits)) fits
+        | inr not_fits ↦ subst (λ (chosen : Part). are_allowed desk.config.read now desk.journal chosen.deeds ≡ true) (sym (cond-false (are_allowed desk.config.read now desk.journal part.deeds) part (only (close desk now phase)) not_fits)) (close_fits phase)
       ]
 
 -- questions record nothing
-asked_fits : (read : Reading) (now : ℕ) (journal : List Entry) (node : Node) (last : Then) (more : List Deed) → are_allowed read now journal more ≡ true
-    → are_allowed read now journal (asked node last ++ more) ≡ true
-asked_fits read now journal node Done more fits = fits
-asked_fits read now journal node (Next talk n) more fits = fits
-asked_fits read now journal node (Undo role talk key why) more fits = fits
-asked_fits read now journal node (Push talk key) more fits = fits
-asked_fits read now journal node (Offered talk key name interval) more fits = fits
-asked_fits read now journal node (Onto role talk key a) more fits = fits
-asked_fits read now journal node (Piece role talk key source offset) more fits = fits
+asked_fits : (read : Reading) (now : ℕ) (journal : List Entry) (desk : Desk) (last : Then) (more : List Deed) → are_allowed read now journal more ≡ true
+    → are_allowed read now journal (asked desk last ++ more) ≡ true
+asked_fits read now journal desk Done more fits = fits
+asked_fits read now journal desk (Next talk n) more fits = fits
+asked_fits read now journal desk (Undo role talk key why) more fits = fits
+asked_fits read now journal desk (Push talk key) more fits = fits
+asked_fits read now journal desk (Offered talk key name interval) more fits = fits
+asked_fits read now journal desk (Onto role talk key a) more fits = fits
+asked_fits read now journal desk (Piece role talk key source offset) more fits = fits
 
 -- all parts, where the first one may follow
-parts_fit : (more : ℕ) (node : Node) → HavePriorities node.config.read → (sid : ℕ) (answers : Answers) (part : Part)
-    → is_legal node.config.read node.journal ≡ true → latest node.journal ≤ answers.now
-    → are_allowed node.config.read answers.now node.journal part.deeds ≡ true
-    → are_allowed node.config.read answers.now node.journal (all_parts more node sid answers part) ≡ true
+parts_fit : (more : ℕ) (node : Node) → HavePriorities node.desk.config.read → (sid : ℕ) (answers : Answers) (part : Part)
+    → is_legal node.desk.config.read node.desk.journal ≡ true → latest node.desk.journal ≤ answers.now
+    → are_allowed node.desk.config.read answers.now node.desk.journal part.deeds ≡ true
+    → are_allowed node.desk.config.read answers.now node.desk.journal (all_parts more node sid answers part) ≡ true
 unfolding all_parts
 parts_fit zero node priorities sid answers part legal early fits = fits
 parts_fit (suc more) node priorities sid answers part legal early fits =
     let after : Node = does sid part.deeds node in
-    let same : after.config ≡ node.config = same_config sid part.deeds node in
-    let whole : are_allowed node.config.read answers.now node.journal (part.deeds ++ []) ≡ true = subst (λ (deeds : List Deed). are_allowed node.config.read answers.now node.journal deeds ≡ true) (sym (append-nil part.deeds)) fits in
-    let legal2 : is_legal after.config.read after.journal ≡ true = subst (λ (config : Config). is_legal config.read after.journal ≡ true) (sym same) (part_legal sid answers.now part.deeds [] node legal whole) in
-    let early2 : latest after.journal ≤ answers.now = part_on_time sid answers.now part.deeds [] node early whole in
-    let priorities2 : HavePriorities after.config.read = subst (λ (config : Config). HavePriorities config.read) (sym same) priorities in
-    let following : Part = checked after answers.now (after.phase sid) (part_behind after answers.now (after.phase sid) answers part.later) in
-    let rest : are_allowed after.config.read answers.now after.journal (all_parts more after sid answers following) ≡ true =
-    parts_fit more after priorities2 sid answers following legal2 early2 (checked_fits after priorities2 legal2 answers.now early2 (after.phase sid) (part_behind after answers.now (after.phase sid) answers part.later)) in
-    let rest2 : are_allowed node.config.read answers.now after.journal (all_parts more after sid answers following) ≡ true = subst (λ (config : Config). are_allowed config.read answers.now after.journal (all_parts more after sid answers following) ≡ true) same rest in
-    both_fit sid answers.now node.config.read part.deeds _ node fits
-    (either (is_done part.later) (asked after part.later ++ all_parts more after sid answers following) (asked_fits node.config.read answers.now after.journal after part.later _ rest2))
+    let same : after.desk.config ≡ node.desk.config = same_config sid part.deeds node in
+    let whole : are_allowed node.desk.config.read answers.now node.desk.journal (part.deeds ++ []) ≡ true = subst (λ (deeds : List Deed). are_allowed node.desk.config.read answers.now node.desk.journal deeds ≡ true) (sym (append-nil part.deeds)) fits in
+    let legal2 : is_legal after.desk.config.read after.desk.journal ≡ true = subst (λ (config : Config). is_legal config.read after.desk.journal ≡ true) (sym same) (part_legal sid answers.now part.deeds [] node legal whole) in
+    let early2 : latest after.desk.journal ≤ answers.now = part_on_time sid answers.now part.deeds [] node early whole in
+    let priorities2 : HavePriorities after.desk.config.read = subst (λ (config : Config). HavePriorities config.read) (sym same) priorities in
+    let following : Part = checked after.desk answers.now (after.sessions.phase sid) (part_behind after.desk answers.now (after.sessions.phase sid) answers part.later) in
+    let rest : are_allowed after.desk.config.read answers.now after.desk.journal (all_parts more after sid answers following) ≡ true =
+    parts_fit more after priorities2 sid answers following legal2 early2 (checked_fits after.desk priorities2 legal2 answers.now early2 (after.sessions.phase sid) (part_behind after.desk answers.now (after.sessions.phase sid) answers part.later)) in
+    let rest2 : are_allowed node.desk.config.read answers.now after.desk.journal (all_parts more after sid answers following) ≡ true = subst (λ (config : Config). are_allowed config.read answers.now after.desk.journal (all_parts more after sid answers following) ≡ true) same rest in
+    both_fit sid answers.now node.desk.config.read part.deeds _ node fits
+    (either (is_done part.later) (asked after.desk part.later ++ all_parts more after sid answers following) (asked_fits node.desk.config.read answers.now after.desk.journal after.desk part.later _ rest2))
   where
-    either : (b : Bool) (deeds : List Deed) → are_allowed node.config.read answers.now (does sid part.deeds node).journal deeds ≡ true
-        → are_allowed node.config.read answers.now (does sid part.deeds node).journal (cond b [] deeds) ≡ true
+    either : (b : Bool) (deeds : List Deed) → are_allowed node.desk.config.read answers.now (does sid part.deeds node).desk.journal deeds ≡ true
+        → are_allowed node.desk.config.read answers.now (does sid part.deeds node).desk.journal (cond b [] deeds) ≡ true
     either true deeds h = refl
     either false deeds h = h
 
-stays : (sid now : ℕ) (node : Node) (deeds : List Deed) → is_legal node.config.read node.journal ≡ true → latest node.journal ≤ now → are_allowed node.config.read now node.journal deeds ≡ true
+stays : (sid now : ℕ) (node : Node) (deeds : List Deed) → is_legal node.desk.config.read node.desk.journal ≡ true → latest node.desk.journal ≤ now → are_allowed node.desk.config.read now node.desk.journal deeds ≡ true
     → StaysLegal sid now node deeds
 stays sid now node deeds legal early fits done more split =
-    let parts : are_allowed node.config.read now node.journal (done ++ more) ≡ true = subst (λ (all : List Deed). are_allowed node.config.read now node.journal all ≡ true) split fits in
+    let parts : are_allowed node.desk.config.read now node.desk.journal (done ++ more) ≡ true = subst (λ (all : List Deed). are_allowed node.desk.config.read now node.desk.journal all ≡ true) split fits in
     record {
       legal = part_legal sid now done more node legal parts;
       later = (part_extends sid done node).0;
@@ -251,24 +251,37 @@ stays sid now node deeds legal early fits done more split =
       on_time = part_on_time sid now done more node early parts;
     }
 
-first_fits : (node : Node) → HavePriorities node.config.read → (sid now : ℕ) (m : Message)
-    → is_legal node.config.read node.journal ≡ true → latest node.journal ≤ now → are_allowed node.config.read now node.journal (first_part node now sid m).deeds ≡ true
-first_fits node priorities sid now m legal early =
-    elim (is_dead node (own_number (node.phase sid)) || is_detached node sid (key_under_way (node.phase sid))) as (λ b. are_allowed node.config.read now node.journal (cond b (only (close node now (node.phase sid))) (checked node now (node.phase sid) (part_in node now sid m (node.phase sid)))).deeds ≡ true) [
-      | true ↦ close_fits node priorities legal now early (node.phase sid)
-      | false ↦ checked_fits node priorities legal now early (node.phase sid) (part_in node now sid m (node.phase sid))
+first_fits : (desk : Desk) (sessions : Sessions) → HavePriorities desk.config.read → (sid now : ℕ) (m : Message)
+    → is_legal desk.config.read desk.journal ≡ true → latest desk.journal ≤ now → are_allowed desk.config.read now desk.journal (first_part desk sessions now sid m).deeds ≡ true
+first_fits desk sessions priorities sid now m legal early =
+    elim (is_dead desk (own_number (sessions.phase sid)) || is_detached sessions sid (key_under_way (sessions.phase sid))) as (λ b. are_allowed desk.config.read now desk.journal (cond b (only (close desk now (sessions.phase sid))) (checked desk now (sessions.phase sid) (part_in desk sessions now sid m (sessions.phase sid)))).deeds ≡ true) [
+      | true ↦ close_fits desk priorities legal now early (sessions.phase sid)
+      | false ↦ checked_fits desk priorities legal now early (sessions.phase sid) (part_in desk sessions now sid m (sessions.phase sid))
     ]
 
-pub row_stays : (node : Node) → HavePriorities node.config.read → (sid : ℕ) (answers : Answers) (m : Message)
-    → is_legal node.config.read node.journal ≡ true → latest node.journal ≤ answers.now → StaysLegal sid answers.now node (row node sid answers m)
+pub row_stays : (node : Node) → HavePriorities node.desk.config.read → (sid : ℕ) (answers : Answers) (m : Message)
+    → is_legal node.desk.config.read node.desk.journal ≡ true → latest node.desk.journal ≤ answers.now → StaysLegal sid answers.now node (row node sid answers m)
 row_stays node priorities sid answers m legal early =
     stays sid answers.now node (row node sid answers m) legal early
-    (parts_fit most_parts node priorities sid answers (first_part node answers.now sid m) legal early (first_fits node priorities sid answers.now m legal early))
+    (parts_fit most_parts node priorities sid answers (first_part node.desk node.sessions answers.now sid m) legal early (first_fits node.desk node.sessions priorities sid answers.now m legal early))
 
-pub row_end_stays : (node : Node) → HavePriorities node.config.read → (sid now : ℕ)
-    → is_legal node.config.read node.journal ≡ true → latest node.journal ≤ now → StaysLegal sid now node (row_end node sid now)
-row_end_stays node priorities sid now legal early = stays sid now node (row_end node sid now) legal early (close_fits node priorities legal now early (node.phase sid))
+pub row_end_stays : (node : Node) → HavePriorities node.desk.config.read → (sid now : ℕ)
+    → is_legal node.desk.config.read node.desk.journal ≡ true → latest node.desk.journal ≤ now → StaysLegal sid now node (row_end node sid now)
+row_end_stays node priorities sid now legal early = stays sid now node (row_end node sid now) legal early (close_fits node.desk priorities legal now early (node.sessions.phase sid))
 
-pub row_trouble_stays : (node : Node) → HavePriorities node.config.read → (sid now : ℕ)
-    → is_legal node.config.read node.journal ≡ true → latest node.journal ≤ now → StaysLegal sid now node (row_trouble node sid now)
-row_trouble_stays node priorities sid now legal early = stays sid now node (row_trouble node sid now) legal early (trouble_fits node priorities legal now early (node.phase sid))
+pub row_trouble_stays : (node : Node) → HavePriorities node.desk.config.read → (sid now : ℕ)
+    → is_legal node.desk.config.read node.desk.journal ≡ true → latest node.desk.journal ≤ now → StaysLegal sid now node (row_trouble node sid now)
+row_trouble_stays node priorities sid now legal early = stays sid now node (row_trouble node sid now) legal early (trouble_fits node.desk priorities legal now early (node.sessions.phase sid))
+
+-- a fault of the files behind a first part of a row
+pub fault_stays : (node : Node) → HavePriorities node.desk.config.read → (sid now : ℕ) (deeds : List Deed)
+    → StaysLegal sid now node deeds → (done more : List Deed) → deeds ≡ done ++ more → StaysLegal sid now (does sid done node) (row_trouble (does sid done node) sid now)
+fault_stays node priorities sid now deeds stays done more split =
+    let after : IsLegalAfter sid now node done = stays done more split in
+    let same : (does sid done node).desk.config ≡ node.desk.config = same_config sid done node in
+    row_trouble_stays (does sid done node) (subst (λ (config : Config). HavePriorities config.read) (sym same) priorities) sid now
+    (subst (λ (config : Config). is_legal config.read (does sid done node).desk.journal ≡ true) (sym same) after.legal) after.on_time
+
+pub row_accept_stays : (node : Node) → (sid now : ℕ)
+    → is_legal node.desk.config.read node.desk.journal ≡ true → latest node.desk.journal ≤ now → StaysLegal sid now node row_accept
+row_accept_stays node sid now legal early = stays sid now node row_accept legal early refl

@@ -22,7 +22,7 @@ use Rattle.cd_moves.specs.declared.session.Source.{Source}
 use Rattle.cd_moves.specs.declared.session.Phase.{Phase}
 use Rattle.cd_moves.specs.declared.session.Phase.TheVariants.{Gone, Greet, Await, Ask, Ready, Send}
 use Rattle.cd_moves.specs.declared.session.Then.TheVariants.{Next, Push, Piece}
-use Rattle.cd_moves.specs.Node.{Node, Deed, Keep, Begin, Go, Part, only}
+use Rattle.cd_moves.specs.Node.{Desk, Deed, Keep, Begin, Go, Part, only}
 use Rattle.cd_moves.specs.Closing.{close}
 
 -- Sending.
@@ -63,12 +63,12 @@ push talk key step (Some len) =
     else only (Go (Await talk key None) (message.Abort key cause.TooLarge ∷ []) ∷ [])
 
 -- the source of a push was asked for its length
-abbrev pub push_of : Node → ℕ → Phase → Talk → Key → Option ℕ → Option What → Part
-push_of node now phase talk key size (Some (what.Copy step)) = push talk key step size
-push_of node now phase talk key size _ = only (close node now phase)
+abbrev pub push_of : Desk → ℕ → Phase → Talk → Key → Option ℕ → Option What → Part
+push_of desk now phase talk key size (Some (what.Copy step)) = push talk key step size
+push_of desk now phase talk key size _ = only (close desk now phase)
 
-abbrev pub source_known : Node → ℕ → Phase → Talk → Key → Option ℕ → Part
-source_known node now phase talk key size = push_of node now phase talk key size (what_at node.config.read node.journal key.number key.place)
+abbrev pub source_known : Desk → ℕ → Phase → Talk → Key → Option ℕ → Part
+source_known desk now phase talk key size = push_of desk now phase talk key size (what_at desk.config.read desk.journal key.number key.place)
 
 -- the partner is asked for the source of a pull
 abbrev pub pull : Talk → Key → CopyStep → Part
@@ -82,10 +82,10 @@ abbrev pub finish : ℕ → ℕ → ℕ → Part
 finish now home n = only (Keep (entry.Closed n how.Finished now) ∷ Go Gone (message.Forget home n ∷ message.Bye ∷ []) ∷ [])
 
 -- the step at the place that comes next. Steps that run or submit have no row yet
-abbrev pub begin : Node → ℕ → Phase → Talk → Key → Option What → Part
-begin node now phase talk key None = finish now key.home key.number
-begin node now phase talk key (Some (what.Copy step)) = copy talk key step
-begin node now phase talk key _ = only (close node now phase)
+abbrev pub begin : Desk → ℕ → Phase → Talk → Key → Option What → Part
+begin desk now phase talk key None = finish now key.home key.number
+begin desk now phase talk key (Some (what.Copy step)) = copy talk key step
+begin desk now phase talk key _ = only (close desk now phase)
 
 abbrev pub ended_as : Key → Outcomes → ℕ → Entry
 ended_as key o now = entry.Ended key.number key.place o.rc o.cause o.bytes now
@@ -94,22 +94,22 @@ ended_as key o now = entry.Ended key.number key.place o.rc o.cause o.bytes now
 abbrev pub ended : Talk → Key → Outcomes → ℕ → Part
 ended talk key o now = record { deeds = Keep (ended_as key o now) ∷ []; later = Next talk key.number }
 
-abbrev pub step_at : Node → ℕ → Phase → Talk → Key → Option Outcomes → Part
-step_at node now phase talk key (Some o) = ended talk key o now
-step_at node now phase talk key None = begin node now phase talk key (what_at node.config.read node.journal key.number key.place)
+abbrev pub step_at : Desk → ℕ → Phase → Talk → Key → Option Outcomes → Part
+step_at desk now phase talk key (Some o) = ended talk key o now
+step_at desk now phase talk key None = begin desk now phase talk key (what_at desk.config.read desk.journal key.number key.place)
 
 -- the key of a step at a place, where the node has a home; the end is the place behind the last of at most 1,024 statements
 abbrev pub key_at : ℕ → ℕ → Option (List ℕ × ℕ) → Option Key
 key_at n place None = None
 key_at n place (Some own) = if nat_le place 1024 then Some (record { pnode = own.0; home = own.1; number = n; place = place }) else None
 
-abbrev pub next_step : Node → ℕ → Phase → Talk → Option Key → Part
-next_step node now phase talk None = only (close node now phase)
-next_step node now phase talk (Some key) = step_at node now phase talk key (outcome node.journal key)
+abbrev pub next_step : Desk → ℕ → Phase → Talk → Option Key → Part
+next_step desk now phase talk None = only (close desk now phase)
+next_step desk now phase talk (Some key) = step_at desk now phase talk key (outcome desk.journal key)
 
 -- take the step that comes next
-abbrev pub next : Node → ℕ → Phase → Talk → ℕ → Part
-next node now phase talk n = next_step node now phase talk (key_at n (next_place node.config.read node.journal n) (own_home node.journal))
+abbrev pub next : Desk → ℕ → Phase → Talk → ℕ → Part
+next desk now phase talk n = next_step desk now phase talk (key_at n (next_place desk.config.read desk.journal n) (own_home desk.journal))
 
 -- a step has its outcome: the SNODE answers it, and the PNODE records the step's end and takes the next step
 abbrev pub settled : Side → Talk → Key → Outcomes → Part

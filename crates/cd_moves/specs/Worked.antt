@@ -52,22 +52,16 @@ worked_files file name = if bytes_eq name (codes "a") then file else None
 
 abbrev pub node_a : ℕ → ℕ → Option (List ℕ) → Node
 node_a block interval file = record {
-  config = worked_config block interval;
-  journal = entry.Submitted 1 500 None worked_filed (codes "P1") ∷ entry.Home (codes "ALPHA") 1 ∷ [];
+  desk = record { config = worked_config block interval; journal = entry.Submitted 1 500 None worked_filed (codes "P1") ∷ entry.Home (codes "ALPHA") 1 ∷ [] };
   shelf = settled_shelf (worked_files file);
-  sids = [];
-  phase = λ sid. Gone;
-  holder = λ key. None;
+  sessions = record { sids = []; phase = λ sid. Gone; holder = λ key. None };
 }
 
 abbrev pub node_b : ℕ → ℕ → Node
 node_b block interval = record {
-  config = worked_config block interval;
-  journal = entry.Home (codes "BETA") 2 ∷ [];
+  desk = record { config = worked_config block interval; journal = entry.Home (codes "BETA") 2 ∷ [] };
   shelf = settled_shelf (λ name. None);
-  sids = [];
-  phase = λ sid. Gone;
-  holder = λ key. None;
+  sessions = record { sids = []; phase = λ sid. Gone; holder = λ key. None };
 }
 
 -- both nodes, and the frames on the way in their one session
@@ -102,7 +96,7 @@ answers node m = record {
   now = 1000;
   there = option_map (λ file. length file) (node.shelf.seen (codes "b"));
   source = option_map (λ file. length file) (node.shelf.seen (codes "a"));
-  bytes = piece_of node.config.block (bytes_of (node.shelf.seen (codes "a"))) (offset_of m) (source_of (node.phase 1));
+  bytes = piece_of node.desk.config.block (bytes_of (node.shelf.seen (codes "a"))) (offset_of m) (source_of (node.sessions.phase 1));
 }
 
 abbrev at_b : Pair → Message → List Message → List Deed → Pair
@@ -149,5 +143,5 @@ entries_b =
 pub record AllDone (pair : Pair) : Type 0 where
   pub way_to_a : pair.to_a ≡ []
   pub way_to_b : pair.to_b ≡ []
-  pub side_a : pair.a.phase 1 ≡ Gone
-  pub side_b : pair.b.phase 1 ≡ Gone
+  pub side_a : pair.a.sessions.phase 1 ≡ Gone
+  pub side_b : pair.b.sessions.phase 1 ≡ Gone
