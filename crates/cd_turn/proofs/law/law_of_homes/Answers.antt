@@ -1,5 +1,5 @@
 use Rattle.std.proofs.Common.{◌≡◌}
-use Rattle.cd_turn.proofs.Fit.{fit_or_not, fit_apart, one_list, one_place, blank_fit}
+use Rattle.cd_turn.proofs.Fit.{fit_or_not, fit_apart, one_list, one_place, blank_fit, kept_fit}
 use Rattle.cd_turn.proofs.law.law_of_homes.Goals as goal
 
 pub returns-clause-either : goal.returns-clause-either
@@ -16,3 +16,6 @@ returns-clause-one_place c = one_place
 
 pub returns-clause-blank : goal.returns-clause-blank
 returns-clause-blank c = blank_fit
+
+pub returns-clause-kept : goal.returns-clause-kept
+returns-clause-kept c = kept_fit
