@@ -189,6 +189,14 @@ over_is bytes part from old at end within inside end_is =
     ∙ ap (λ (l : List ℕ). take from bytes ++ (l ++ drop end bytes)) (sym (append_assoc x part z))
     ∙ ap (λ (l : List ℕ). take from bytes ++ ((l ++ part ++ z) ++ drop end bytes)) (sym (take-take at old (drop from bytes) (omega arith)))
 
+-- written behind the end
+pub over_end : (now old bytes : List ℕ) → now ≡ old → overwritten (length now) bytes old ≡ old ++ bytes
+over_end now old bytes is =
+    let none : length now - length old ≡ 0 = omega (arith, ap length is) in
+    let front : resized (length now) old ≡ old = (λ j. take_all (length now) old (omega (arith, ap length is)) j ++ replicate (none j) 0) ∙ append-nil old in
+    (λ j. front j ++ bytes ++ drop_all (length now + length bytes) old (omega (arith, ap length is)) j)
+    ∙ append-nil (old ++ bytes)
+
 -- what is known of the one at a place
 module _ (sizes bytes : List ℕ) (items : List (List ℕ)) (i : ℕ) (is : cut_up sizes bytes ≡ items) (all : extent sizes ≡ length bytes) (lt : i < length items) where
   pub within : i < length sizes

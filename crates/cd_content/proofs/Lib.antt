@@ -10,6 +10,7 @@ mod Left
 mod Logged
 mod Named
 mod Replay
+mod Rolled
 mod Shelved
 mod Slots
 pub mod Tidied

@@ -10,12 +10,14 @@ pub mod Ledger
 pub mod Log
 pub mod Marks
 pub mod Names
+pub mod Numbered
 pub mod Parts
 pub mod Past
 pub mod Pieces
 pub mod Place
 pub mod Put
 pub mod Record
+pub mod Roll
 pub mod Room
 pub mod Sessions
 pub mod Shelves

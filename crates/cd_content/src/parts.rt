@@ -140,6 +140,18 @@ impl Parts {
         }
     }
 
+    /// Adds bytes behind those of the one at that place.
+    pub fn append(&mut self, i: usize, bytes: &[u8])
+        requires place { i < length self.old.items }
+        requires bytes { length bytes.now ≤ self.old.bytes_left }
+        ensures items { self.new.items ≡ slice_set self.old.items i (slice_index_or self.old.items i [] ++ bytes.now) }
+        ensures parts { self.old.parts_left ≤ self.new.parts_left }
+        ensures bytes { self.old.bytes_left ≤ self.new.bytes_left + length bytes.now }
+    {
+        let end = self.part(i).len();
+        self.write(i, end, bytes);
+    }
+
     /// Takes out the one at that place.
     pub fn remove(&mut self, i: usize)
         requires { i < length self.old.items }
