@@ -4,7 +4,7 @@ ghost use Rattle.cd_grammar.specs.declared.token.Token.{Token};
 ghost use Rattle.cd_grammar.specs.Answers.{Strictness};
 ghost use Rattle.cd_grammar.specs.Reading.{Reading};
 ghost use Rattle.cd_grammar.specs.Faults.{IsRead};
-ghost use Rattle.cd_parser.specs.Machine.{whole};
+ghost use Rattle.cd_machine.specs.Machine.{whole};
 
 /// What the machine reads of tokens is what the grammar says of them, however strictly both are taken.
 pub fn law_of_machine()

@@ -1,0 +1,6 @@
+//! The machine with which texts of the Process language are read, token by token, and what it has to do with the grammar.
+#![tactic(auto)]
+
+mod law;
+
+pub use law::law_of_machine;
