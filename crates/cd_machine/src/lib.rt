@@ -3,4 +3,4 @@
 
 mod law;
 
-pub use law::law_of_machine;
+pub use law::{law_of_machine, law_of_reading};

@@ -1,5 +1,9 @@
 use Rattle.cd_machine.proofs.Sound.{whole_sound}
+use Rattle.cd_machine.proofs.Walks.{read_whole}
 use Rattle.cd_machine.proofs.law.law_of_machine.Goals as goal
 
 pub returns : goal.returns
-returns c = record { sound = λ how len tokens all e. whole_sound how len tokens all e }
+returns c = record {
+  sound = λ how len tokens all e. whole_sound how len tokens all e;
+  complete = λ how len tokens all asks keyed read. read_whole how len tokens all asks keyed read;
+}
