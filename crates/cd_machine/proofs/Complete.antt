@@ -73,7 +73,7 @@ stage_of (g.Timing r given day) = Reads r (Timing given day)
 some_is : {A : Type 0} (a b : A) → Some a ≡ Some b → a ≡ b
 some_is a b e = cc
 
-none_of : {A : Type 0} (o : Option A) → is_some o ≡ false → o ≡ None
+pub none_of : {A : Type 0} (o : Option A) → is_some o ≡ false → o ≡ None
 none_of None e = refl
 none_of (Some x) e = absurd cc
 
@@ -100,19 +100,19 @@ module _ (how : Strictness) where
   on_next r2 s2 e rest = record { holds = λ keyed. rw e (λ asked. rest.holds) }
 
   -- a parameter
-  named_next : (r : Reading) (s : Step) (set : Slot) (at : ℕ) (k : Key) (word : List ℕ) → slot_of s k ≡ Some set → has (given_of s) set ≡ false
+  pub named_next : (r : Reading) (s : Step) (set : Slot) (at : ℕ) (k : Key) (word : List ℕ) → slot_of s k ≡ Some set → has (given_of s) set ≡ false
       → next how r (At s) (Word at k word) ≡ Ok (r, Named s set at k word)
   unfolding next word_turn
   named_next r s set at k word e unused = rw (slot_opener s k set e) (rw e (rw unused refl))
 
-  value_next : (r : Reading) (s : Step) (set : Slot) (at : ℕ) (value : Token) (later : Given) → taken (how.ranges (place_of value)) (with_value (given_of s) set at value) ≡ Ok later
+  pub value_next : (r : Reading) (s : Step) (set : Slot) (at : ℕ) (value : Token) (later : Given) → taken (how.ranges (place_of value)) (with_value (given_of s) set at value) ≡ Ok later
       → next how r (Value s set at) value ≡ Ok (r, At (with_given s later))
   unfolding next value_move
   value_next r s set at (Word at2 k word) later e = rw e refl
   value_next r s set at (Quoted at2 text) later e = rw e refl
   value_next r s set at (Mark at2 m) later e = absurd cc
 
-  inner_next : (r : Reading) (s : Step) (set : Slot) (at : ℕ) (value : Token) (later : Given) → taken (how.ranges (place_of value)) (with_value (given_of s) set at value) ≡ Ok later
+  pub inner_next : (r : Reading) (s : Step) (set : Slot) (at : ℕ) (value : Token) (later : Given) → taken (how.ranges (place_of value)) (with_value (given_of s) set at value) ≡ Ok later
       → next how r (Parenthesized s set at) value ≡ Ok (r, Closing (with_given s later))
   unfolding next
   inner_next r s set at value later e = rw e refl
@@ -195,7 +195,7 @@ module _ (how : Strictness) where
   time_by_clock r given day at word seconds (Some clock) e = rw e refl
   time_by_clock r given day at word seconds None e = rw e refl
 
-  time_next : (r : Reading) (given : Given) (day : Day) (at : ℕ) (k : Key) (word : List ℕ) (seconds : ℕ) → taken (how.ranges at) (time_in word) ≡ Ok seconds
+  pub time_next : (r : Reading) (given : Given) (day : Day) (at : ℕ) (k : Key) (word : List ℕ) (seconds : ℕ) → taken (how.ranges at) (time_in word) ≡ Ok seconds
       → next how r (Timing given day) (Word at k word) ≡ Ok (r, Timed given day (clock_in word) seconds)
   unfolding next
   time_next r given day at k word seconds e = time_by_clock r given day at word seconds (clock_in word) e
@@ -258,12 +258,12 @@ module _ (how : Strictness) where
   copy_end key.To end e = refl
   copy_end _ end e = absurd cc
 
-  group_next : (r : Reading) (begun : Begun) (copy : CopyGiven) (at : ℕ) (k : Key) (word : List ℕ) (end : End) → end_in k ≡ Some end → is_some (end_of copy end) ≡ false
+  pub group_next : (r : Reading) (begun : Begun) (copy : CopyGiven) (at : ℕ) (k : Key) (word : List ℕ) (end : End) → end_in k ≡ Some end → is_some (end_of copy end) ≡ false
       → next how r (At (step.Copy begun copy)) (Word at k word) ≡ Ok (r, GroupOpen begun copy end)
   unfolding next word_turn slot_of bare_state
   group_next r begun copy at k word end e unused = rw (key_end k end e) (rw (copy_end k end e) (rw e (rw (none_of (end_of copy end) unused) refl)))
 
-  group_end_next : (r : Reading) (begun : Begun) (copy : CopyGiven) (end : End) (given : Given) (at : ℕ) → is_some given.file ≡ true
+  pub group_end_next : (r : Reading) (begun : Begun) (copy : CopyGiven) (end : End) (given : Given) (at : ℕ) → is_some given.file ≡ true
       → next how r (At (step.Group begun copy end given)) (Mark at sign.Close) ≡ Ok (r, At (step.Copy begun (with_end copy end given)))
   unfolding next mark_move
   group_end_next r begun copy end given at e = rw e refl
@@ -272,7 +272,7 @@ module _ (how : Strictness) where
   unfolding next mark_move
   run_group_next r begun w given at = refl
 
-  run_group_end_next : (r : Reading) (begun : Begun) (w : Work) (given : Given) (at : ℕ) → next how r (At (step.RunGroup begun w given)) (Mark at sign.Close) ≡ Ok (r, At (step.Run begun w given))
+  pub run_group_end_next : (r : Reading) (begun : Begun) (w : Work) (given : Given) (at : ℕ) → next how r (At (step.RunGroup begun w given)) (Mark at sign.Close) ≡ Ok (r, At (step.Run begun w given))
   unfolding next mark_move
   run_group_end_next r begun w given at = refl
 
@@ -445,11 +445,11 @@ module _ (how : Strictness) where
       → Pass how (Reads r (Symbol s name)) ts all → Pass how (Reads r (At s)) (Word at k word ∷ ts) all
   symbol_pass r s at k word name takes e rest = record { holds = λ keyed. rw (symbol_next r s at k word name takes e keyed) (λ asked. rest.holds) }
 
-  running_next : (r : Reading) (begun : Begun) (at : ℕ) (k : Key) (word : List ℕ) (w : Work) → work_of k ≡ Some w → next how r (Running begun) (Word at k word) ≡ Ok (r, At (step.Run begun w nothing))
+  pub running_next : (r : Reading) (begun : Begun) (at : ℕ) (k : Key) (word : List ℕ) (w : Work) → work_of k ≡ Some w → next how r (Running begun) (Word at k word) ≡ Ok (r, At (step.Run begun w nothing))
   unfolding next
   running_next r begun at k word w e = rw e refl
 
-  if_label_next : (r : Reading) (begun : Begun) (at : ℕ) (k : Key) (word name : List ℕ) → taken (how.ranges at) (label_in k word) ≡ Ok name
+  pub if_label_next : (r : Reading) (begun : Begun) (at : ℕ) (k : Key) (word name : List ℕ) → taken (how.ranges at) (label_in k word) ≡ Ok name
       → next how r (IfLabel begun) (Word at k word) ≡ Ok (r, IfRelation begun at name)
   unfolding next
   if_label_next r begun at k word name e = rw e refl
@@ -459,12 +459,12 @@ module _ (how : Strictness) where
   unfolding next
   if_relation_next r begun at name rel relates e = rw e refl
 
-  if_number_next : (r : Reading) (begun : Begun) (at : ℕ) (name : List ℕ) (relates : Relation) (at5 : ℕ) (k : Key) (word : List ℕ) (n : ℕ) → taken (how.ranges at5) (number_in 0 255 word) ≡ Ok n
+  pub if_number_next : (r : Reading) (begun : Begun) (at : ℕ) (name : List ℕ) (relates : Relation) (at5 : ℕ) (k : Key) (word : List ℕ) (n : ℕ) → taken (how.ranges at5) (number_in 0 255 word) ≡ Ok n
       → next how r (IfNumber begun at name relates) (Word at5 k word) ≡ Ok (r, IfClose begun at name relates n)
   unfolding next
   if_number_next r begun at name relates at5 k word n e = rw e refl
 
-  goto_next : (r : Reading) (begun : Begun) (at : ℕ) (k : Key) (word name : List ℕ) → taken (how.ranges at) (label_in k word) ≡ Ok name
+  pub goto_next : (r : Reading) (begun : Begun) (at : ℕ) (k : Key) (word name : List ℕ) → taken (how.ranges at) (label_in k word) ≡ Ok name
       → next how r (GotoLabel begun) (Word at k word) ≡ Ok (stored r begun (sketch.Goto at name) (what.Goto name), At step.Between)
   unfolding next
   goto_next r begun at k word name e = rw e refl
@@ -491,7 +491,7 @@ module _ (how : Strictness) where
   unfolding statement_turn
   eif_next r before s at word has_else ifs e room opened2 = rw (opener_at r before s at key.Eif word is_eif e) (rw opened2 (rw room refl))
 
-  pend_next : (r before : Reading) (s : Step) (at : ℕ) (word : List ℕ) → ended r s ≡ Some before → next how r (At s) (Word at key.Pend word) ≡ Ok (before, Ended)
+  pub pend_next : (r before : Reading) (s : Step) (at : ℕ) (word : List ℕ) → ended r s ≡ Some before → next how r (At s) (Word at key.Pend word) ≡ Ok (before, Ended)
   unfolding statement_turn
   pend_next r before s at word e = rw (opener_at r before s at key.Pend word is_pend e) refl
 

@@ -6,3 +6,5 @@ pub mod Words
 pub mod Complete
 pub mod Walks
 pub mod Looser
+pub mod Good
+pub mod Viable
