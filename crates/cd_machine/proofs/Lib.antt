@@ -8,3 +8,4 @@ pub mod Walks
 pub mod Looser
 pub mod Good
 pub mod Viable
+pub mod Exact

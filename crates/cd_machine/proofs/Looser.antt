@@ -44,7 +44,7 @@ pub data Looser (A : Type 0) (asked : Bool) (at : ℕ) : Result A Found → Resu
   uncounted : (x : A) → Looser A asked at (Err (TooMany, 1024)) (Ok x)
 
 module _ (asked : Bool) (at : ℕ) where
-  by_place : {A B : Type 0} (answer : Answer A) (f : A → B) → Looser B asked at (with_place at (taken true answer) f) (with_place at (taken asked answer) f)
+  pub by_place : {A B : Type 0} (answer : Answer A) (f : A → B) → Looser B asked at (with_place at (taken true answer) f) (with_place at (taken asked answer) f)
   by_place (Fits x) f = same (f x)
   by_place (Outside x) f = outside asked refl x f
     where

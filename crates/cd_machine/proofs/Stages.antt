@@ -24,6 +24,9 @@ pub data Stage : Type 0 where
 abbrev pub Step : Type 0
 Step = Result Stage Found
 
+abbrev pub ok : Stage → Step
+ok st = Ok st
+
 abbrev pub staged : Turn → Step
 staged (Ok x) = Ok (Reads x.0 x.1)
 staged (Err f) = Err f
