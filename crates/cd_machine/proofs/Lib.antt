@@ -9,3 +9,4 @@ pub mod Looser
 pub mod Good
 pub mod Viable
 pub mod Exact
+pub mod Texts
