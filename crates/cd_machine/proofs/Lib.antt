@@ -10,3 +10,4 @@ pub mod Good
 pub mod Viable
 pub mod Exact
 pub mod Texts
+pub mod Later
