@@ -350,7 +350,7 @@ ending_fault len Fresh f e = same_err (Unexpected, len) f e
 ending_fault len (Titled name) f e = same_err (Unexpected, len) f e
 ending_fault len (Reads r s) f e = end_fault len r s f e
 
-placed_keyed : (from : ℕ) (ts : List Token) → Placed from ts → AreKeyed ts
+pub placed_keyed : (from : ℕ) (ts : List Token) → Placed from ts → AreKeyed ts
 placed_keyed from [] h = tt
 placed_keyed from (t ∷ ts) h = (h.1, placed_keyed (suc (place_of t)) ts h.2)
 

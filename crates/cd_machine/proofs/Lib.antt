@@ -11,3 +11,4 @@ pub mod Viable
 pub mod Exact
 pub mod Texts
 pub mod Later
+pub mod Whole
