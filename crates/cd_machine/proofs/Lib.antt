@@ -12,3 +12,4 @@ pub mod Exact
 pub mod Texts
 pub mod Later
 pub mod Whole
+pub mod Examples

@@ -2,3 +2,4 @@ pub mod State
 pub mod Machine
 pub mod Placed
 pub mod Reached
+pub mod Examples

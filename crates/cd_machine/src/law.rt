@@ -11,6 +11,7 @@ ghost use Rattle.cd_machine.specs.State.{State};
 ghost use Rattle.cd_machine.specs.Machine.{whole};
 ghost use Rattle.cd_machine.specs.Placed.{AreKeyed, Placed};
 ghost use Rattle.cd_machine.specs.Reached.{Reached};
+ghost use Rattle.cd_machine.specs.Examples.{examples, EachLeaves};
 
 /// What the machine reads of tokens is what the grammar says of them, however strictly both are taken; where each range is asked
 /// for, it reads all that the grammar allows. What it has gone over can go on. The fault that it answers of the tokens of a text
@@ -57,4 +58,9 @@ pub fn law_of_resolved_texts()
     ensures not_both { (text : List ℕ) (overrides : List (List ℕ × List ℕ)) (process : Process) (f : Found) → Says text overrides process → IsFaultOf text overrides f → ⊥ }
     ensures one_process { (text : List ℕ) (overrides : List (List ℕ × List ℕ)) (one other : Process) → Says text overrides one → Says text overrides other → one ≡ other }
     ensures one_fault { (text : List ℕ) (overrides : List (List ℕ × List ℕ)) (one other : Found) → IsFaultOf text overrides one → IsFaultOf text overrides other → one ≡ other }
+{}
+
+/// Where some texts leave the grammar.
+pub fn law_of_examples()
+    ensures { EachLeaves examples }
 {}
