@@ -26,17 +26,17 @@ use Rattle.cd_grammar.specs.declared.mark.Sketch.TheVariants as sketch
 use Rattle.cd_ast.specs.declared.process.What.TheVariants as what
 use Rattle.cd_grammar.specs.Answers.{Strictness, taken}
 use Rattle.cd_grammar.specs.Tokens.{place_of}
-use Rattle.cd_grammar.specs.Values.{label_in, symbol_in, number_in}
+use Rattle.cd_grammar.specs.Values.{label_in, front_label_in, symbol_in, number_in}
 use Rattle.cd_grammar.specs.Starts.{day_in, clock_in, half_in, plain_time, half_time, named_time, time_in}
 use Rattle.cd_grammar.specs.Given.{nothing, has, with_value, with_list, takes_list, takes_parentheses, side_of}
 use Rattle.cd_grammar.specs.Reading.{Reading, stored, ended, given_of, with_given, slot_of, takes_symbols, bare_copy, with_name, end_of, has_room, has_depth}
 use Rattle.cd_grammar.specs.Grammar.{Place, Start, Rest, started, begun_at, opening, before_it, relation_of, text_of, work_of, end_in}
 use Rattle.cd_grammar.specs.Grammar as g
 use Rattle.cd_grammar.specs.Later.{Found}
-use Rattle.cd_parser.specs.declared.state.State.{State}
-use Rattle.cd_parser.specs.declared.state.State.TheVariants.{At, Labelled, Named, Value, Parenthesized, Closing, Values, Symbol, SymbolValue, Starting, Dated, Timing, Timed, GroupOpen, Compress, Prime, PrimeValue, Primed, Extended, Extending, Pairs, PairNamed, PairValue, Running, IfOpen, IfLabel, IfRelation, IfNumber, IfClose, IfThen, GotoLabel, Ended, Closed}
-use Rattle.cd_parser.proofs.Starts.{IsStart, start_slot}
-use Rattle.cd_parser.specs.Machine.{Turn, Move, kept, with_place, roomy, on, is_open, is_close, is_equals, behind_open, behind_close, behind_equals, behind_word, unset, free, sided, end_state, compress_if, compress_by, copy_state, bare_state, else_turn, eif_turn, if_turn, verb_turn, label_move, statement_turn, ended_turn, bare_turn, is_symbolic, symbol_turn, slot_turn, is_opener, word_by, word_turn, mark_move, at_turn, named_label, named_turn, is_start, open_move, plain_value, value_move, values_move, symbol_value_turn, is_comma_sign, wanted_at, starting_move, dated_move, time_move, timing_move, half_move, timed_move, compress_turn, primed_turn, extended_turn, pairs_move, running_move, if_label_move, if_number_move, if_then_turn, goto_turn, labelled_turn, ended_move, next, at_end, bind_turn, run, titled, whole}
+use Rattle.cd_machine.specs.State.{State}
+use Rattle.cd_machine.specs.State.{At, Labelled, Named, Value, Parenthesized, Closing, Values, Symbol, SymbolValue, Starting, Dated, Timing, Timed, GroupOpen, Compress, Prime, PrimeValue, Primed, Extended, Extending, Pairs, PairNamed, PairValue, Running, IfOpen, IfLabel, IfRelation, IfNumber, IfClose, IfThen, GotoLabel, Ended, Closed}
+use Rattle.cd_machine.proofs.Starts.{IsStart, start_slot}
+use Rattle.cd_machine.specs.Machine.{Turn, Move, kept, with_place, roomy, on, is_open, is_close, is_equals, behind_open, behind_close, behind_equals, behind_word, unset, free, sided, end_state, compress_if, compress_by, copy_state, bare_state, else_turn, eif_turn, if_turn, verb_turn, label_move, statement_turn, ended_turn, bare_turn, is_symbolic, symbol_turn, slot_turn, is_opener, word_by, word_turn, mark_move, at_turn, named_label, named_turn, is_start, open_move, plain_value, value_move, values_move, symbol_value_turn, is_comma_sign, wanted_at, starting_move, dated_move, time_move, timing_move, half_move, timed_move, compress_turn, primed_turn, extended_turn, pairs_move, running_move, if_label_move, if_number_move, if_then_turn, goto_turn, labelled_turn, ended_move, next, at_end, bind_turn, run, titled, whole}
 
 -- the copy that COMPRESS was read of
 abbrev pub IsCompressed : CopyGiven → CopyGiven → Type 0
@@ -165,7 +165,7 @@ module _ (how : Strictness) (ts : List Token) (all : Reading) where
   verb_sound p label r at key.If word op h = if_sound p label r at word (has_depth how at r) op refl h
   verb_sound p label r at _ word op h = absurd h
 
-  label_sound : (r before : Reading) (s : Step) (at : ℕ) (k : Key) (word : List ℕ) (x : Result (List ℕ) FaultName) → ended r s ≡ Some before → taken (how.ranges at) (label_in k word) ≡ x
+  label_sound : (r before : Reading) (s : Step) (at : ℕ) (k : Key) (word : List ℕ) (x : Result (List ℕ) FaultName) → ended r s ≡ Some before → taken (how.ranges at) (front_label_in k word) ≡ x
       → Going how ts all (label_move how before at x) → Rest how (g.At r s) (Word at k word ∷ ts) all
   label_sound r before s at k word (Ok name) e named h = by_room (has_room how before) (Ok (before, Labelled at name)) h (λ room rest. g.label e named rest)
   label_sound r before s at k word (Err name) e named h = absurd h
@@ -301,7 +301,7 @@ module _ (how : Strictness) (ts : List Token) (all : Reading) where
   at_sound r s (Quoted at text) h = absurd h
   at_sound r s (Mark at m) h = mark_sound r s at m h
 
-  named_by : (r before : Reading) (s : Step) (at at2 : ℕ) (k k2 : Key) (word word2 : List ℕ) (x : Result (List ℕ) FaultName) → ended r s ≡ Some before → taken (how.ranges at) (label_in k word) ≡ x
+  named_by : (r before : Reading) (s : Step) (at at2 : ℕ) (k k2 : Key) (word word2 : List ℕ) (x : Result (List ℕ) FaultName) → ended r s ≡ Some before → taken (how.ranges at) (front_label_in k word) ≡ x
       → Going how ts all (named_label how before at x at2 k2) → Rest how (g.At r s) (Word at k word ∷ Word at2 k2 word2 ∷ ts) all
   named_by r before s at at2 k k2 word word2 (Ok name) e named h = g.label e named (verb_sound (g.Labelled before at name) (Some (at, name)) before at2 k2 word2 refl h)
   named_by r before s at at2 k k2 word word2 (Err name) e named h = absurd h

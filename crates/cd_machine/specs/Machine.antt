@@ -28,14 +28,14 @@ use Rattle.cd_grammar.specs.declared.step.Step.{Step}
 use Rattle.cd_grammar.specs.declared.step.Step.TheVariants as step
 use Rattle.cd_grammar.specs.Answers.{Answer, Wrong, Strictness, taken, wanted}
 use Rattle.cd_grammar.specs.Tokens.{place_of}
-use Rattle.cd_grammar.specs.Values.{label_in, symbol_in, number_in}
+use Rattle.cd_grammar.specs.Values.{label_in, front_label_in, symbol_in, number_in}
 use Rattle.cd_grammar.specs.Starts.{day_in, clock_in, half_in, plain_time, half_time, named_time}
 use Rattle.cd_grammar.specs.Given.{nothing, has, with_value, with_list, takes_list, takes_parentheses, side_of}
 use Rattle.cd_grammar.specs.Reading.{Reading, named, stored, ended, given_of, with_given, slot_of, takes_side, takes_symbols, with_name, bare_copy, end_of, with_end, has_room, has_depth}
 use Rattle.cd_grammar.specs.Grammar.{started, begun_at, relation_of, text_of, work_of, end_in}
 use Rattle.cd_grammar.specs.Later.{Found}
-use Rattle.cd_parser.specs.declared.state.State.{State}
-use Rattle.cd_parser.specs.declared.state.State.TheVariants.{At, Labelled, Named, Value, Parenthesized, Closing, Values, Symbol, SymbolValue, Starting, Dated, Timing, Timed, GroupOpen, Compress, Prime, PrimeValue, Primed, Extended, Extending, Pairs, PairNamed, PairValue, Running, IfOpen, IfLabel, IfRelation, IfNumber, IfClose, IfThen, GotoLabel, Ended, Closed}
+use Rattle.cd_machine.specs.State.{State}
+use Rattle.cd_machine.specs.State.{At, Labelled, Named, Value, Parenthesized, Closing, Values, Symbol, SymbolValue, Starting, Dated, Timing, Timed, GroupOpen, Compress, Prime, PrimeValue, Primed, Extended, Extending, Pairs, PairNamed, PairValue, Running, IfOpen, IfLabel, IfRelation, IfNumber, IfClose, IfThen, GotoLabel, Ended, Closed}
 
 -- what is read and where reading stands, behind a token; or the fault of the token
 abbrev pub Turn : Type 0
@@ -187,7 +187,7 @@ statement_turn how r at key.Submit word = verb_turn how r None at key.Submit
 statement_turn how r at key.If word = verb_turn how r None at key.If
 statement_turn how r at key.Goto word = verb_turn how r None at key.Goto
 statement_turn how r at key.Exit word = verb_turn how r None at key.Exit
-statement_turn how r at k word = label_move how r at (taken (how.ranges at) (label_in k word))
+statement_turn how r at k word = label_move how r at (taken (how.ranges at) (front_label_in k word))
 
 -- the statement that is being read ends, where it may
 abbrev pub ended_turn : Option Reading → (Reading → Turn) → ℕ → Turn
@@ -254,7 +254,7 @@ named_label how r at (Ok name) at2 k2 = verb_turn how r (Some (at, name)) at2 k2
 named_label how r at (Err name) at2 k2 = unexpected at2
 
 abbrev pub named_turn : Strictness → Reading → Step → Slot → ℕ → Key → List ℕ → Token → Turn
-named_turn how r s set at k word (Word at2 k2 word2) = ended_turn (ended r s) (λ before. named_label how before at (taken (how.ranges at) (label_in k word)) at2 k2) at2
+named_turn how r s set at k word (Word at2 k2 word2) = ended_turn (ended r s) (λ before. named_label how before at (taken (how.ranges at) (front_label_in k word)) at2 k2) at2
 named_turn how r s set at k word (Quoted at2 text) = unexpected at2
 named_turn how r s set at k word (Mark at2 g) = on (is_equals g) at2 (r, Value s set at)
 
