@@ -13,3 +13,4 @@ pub mod Texts
 pub mod Later
 pub mod Whole
 pub mod Examples
+pub mod Printed
