@@ -14,3 +14,4 @@ pub mod Later
 pub mod Whole
 pub mod Examples
 pub mod Printed
+pub mod Ranges

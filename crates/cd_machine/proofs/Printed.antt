@@ -152,10 +152,11 @@ time_read seconds h =
     let rest : seconds % 60 < 60 = omega arith in
     let early : nat_le (seconds / 3600) 23 ≡ true = grind arith in
     let few : nat_le (seconds / 60 % 60) 59 ≡ true = grind arith in
-    let less : nat_le (seconds % 60) 59 ≡ true = grind arith in
-    (record { hours = seconds / 3600; minutes = seconds / 60 % 60; seconds = seconds % 60 },
-    clock_read (seconds / 3600) (seconds / 60 % 60) (seconds % 60) (omega arith) (omega arith) (omega arith),
-    rw early (rw few (rw less (ap (λ (n : ℕ). fits n) (seconds_are seconds h)))))
+    let less : nat_le (seconds % 60) 59 ≡ true = grind arith in (
+      record { hours = seconds / 3600; minutes = seconds / 60 % 60; seconds = seconds % 60 },
+      clock_read (seconds / 3600) (seconds / 60 % 60) (seconds % 60) (omega arith) (omega arith) (omega arith),
+      rw early (rw few (rw less (ap (λ (n : ℕ). fits n) (seconds_are seconds h)))),
+    )
   where
     fits : ℕ → Answer ℕ
     fits n = Fits n
@@ -179,4 +180,3 @@ today_read = refl
 pub tomorrow_read : day_in (codes "TOMORROW") ≡ Some day.Tomorrow
 unfolding day_in said_in
 tomorrow_read = refl
-

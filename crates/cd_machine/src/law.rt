@@ -1,5 +1,5 @@
 //! What the machine has to do with the grammar, and what the grammar says of texts.
-ghost use Rattle.std.specs.Prelude.{◌≡◌, ℕ, ◌⊎◌, List, [], Ok, Err, true};
+ghost use Rattle.std.specs.Prelude.{◌≡◌, ℕ, ◌≤◌, ◌⊎◌, List, length, [], Ok, Err, true};
 ghost use Rattle.cd_grammar.specs.declared.token.Token.{Token};
 ghost use Rattle.cd_grammar.specs.Answers.{Strictness, strict};
 ghost use Rattle.cd_grammar.specs.Reading.{Reading};
@@ -10,6 +10,7 @@ ghost use Rattle.cd_grammar.specs.Tokens.{tokens_of};
 ghost use Rattle.cd_machine.specs.State.{State};
 ghost use Rattle.cd_machine.specs.Machine.{whole};
 ghost use Rattle.cd_machine.specs.Placed.{AreKeyed, Placed};
+ghost use Rattle.cd_machine.specs.Ranges.{is_card, are_stmts};
 ghost use Rattle.cd_machine.specs.Reached.{Reached};
 ghost use Rattle.cd_machine.specs.Examples.{examples, EachLeaves};
 
@@ -58,6 +59,14 @@ pub fn law_of_resolved_texts()
     ensures not_both { (text : List ℕ) (overrides : List (List ℕ × List ℕ)) (process : Process) (f : Found) → Says text overrides process → IsFaultOf text overrides f → ⊥ }
     ensures one_process { (text : List ℕ) (overrides : List (List ℕ × List ℕ)) (one other : Process) → Says text overrides one → Says text overrides other → one ≡ other }
     ensures one_fault { (text : List ℕ) (overrides : List (List ℕ × List ℕ)) (one other : Found) → IsFaultOf text overrides one → IsFaultOf text overrides other → one ≡ other }
+{}
+
+/// What a text says is in range: its card, each of its statements, and how many there are.
+pub fn law_of_ranges()
+    ensures card { (text : List ℕ) (process : Process) → InGrammar text process → is_card process.card ≡ true }
+    ensures name { (text : List ℕ) (process : Process) → InGrammar text process → process.card.name ≡ process.name }
+    ensures statements { (text : List ℕ) (process : Process) → InGrammar text process → are_stmts process.stmts ≡ true }
+    ensures count { (text : List ℕ) (process : Process) → InGrammar text process → length process.stmts ≤ 1024 }
 {}
 
 /// Where some texts leave the grammar.
