@@ -1,6 +1,6 @@
 -- What is printed of a value is read as that value.
 use Rattle.std.proofs.Common.{◌≡◌, ℕ, zero, suc, ◌+◌, ◌-◌, ◌*◌, ◌/◌, ◌%◌, ◌<◌, ◌≤◌, ◌^◌, nat_lt, nat_le, Bool, true, false, ◌&&◌, ◌||◌, List, [], ◌∷◌, ◌++◌, length, length-append, take, get_or, Option, Some, None, refl, ap, sym, subst, ◌∙◌, arith}
-use Rattle.std.specs.Prelude.{if◌then◌else◌, ◌==◌, codes, slice_index}
+use Rattle.std.specs.Prelude.{if◌then◌else◌, ◌==◌, codes, slice_index, nat_eq}
 use Rattle.std.specs.Char.{is_ascii_digit}
 use Rattle.std.specs.Fmt.{decimal}
 use Rattle.std.specs.List.{list_all, fold}
@@ -138,14 +138,14 @@ unfolding clock_in long_clock minutes_in time_text
 clock_read h m s a b c =
     rw (not_colon h) (rw (digit_below (h / 10)) (rw (both_digits (h / 10) h) (rw (both_digits (m / 10) m) (rw (both_digits (s / 10) s) (rw (two_is h a) (rw (two_is m b) (rw (two_is s c) refl)))))))
 
-pub time_printed : ℕ → List ℕ
+abbrev pub time_printed : ℕ → List ℕ
 time_printed seconds = two_digits (seconds / 3600) ++ codes ":" ++ two_digits (seconds / 60 % 60) ++ codes ":" ++ two_digits (seconds % 60)
 
 seconds_are : (seconds : ℕ) → seconds < 86400 → seconds / 3600 * 3600 + seconds / 60 % 60 * 60 + seconds % 60 ≡ seconds
 seconds_are seconds h = omega arith
 
 pub time_read : (seconds : ℕ) → seconds < 86400 → (clock : Clock) × (clock_in (time_printed seconds) ≡ Some clock) × (plain_time clock ≡ Fits seconds)
-unfolding time_printed plain_time time_text
+unfolding plain_time time_text
 time_read seconds h =
     let hours : seconds / 3600 < 24 = omega arith in
     let minutes : seconds / 60 % 60 < 60 = omega arith in
@@ -180,3 +180,111 @@ today_read = refl
 pub tomorrow_read : day_in (codes "TOMORROW") ≡ Some day.Tomorrow
 unfolding day_in said_in
 tomorrow_read = refl
+
+-- an interval, in units of 1,024 bytes
+digit_bounds : (d : ℕ) → is_ascii_digit d ≡ true → (48 ≤ d) × (d ≤ 57)
+digit_bounds d e = (low_of (nat_le 48 d) (nat_le d 57) refl refl e, high_of (nat_le 48 d) (nat_le d 57) refl refl e)
+  where
+    low_of : (a b : Bool) → nat_le 48 d ≡ a → nat_le d 57 ≡ b → (a && b) ≡ true → 48 ≤ d
+    low_of true b p q r = grind arith
+    low_of false b p q r = absurd cc
+
+    high_of : (a b : Bool) → nat_le 48 d ≡ a → nat_le d 57 ≡ b → (a && b) ≡ true → d ≤ 57
+    high_of true true p q r = grind arith
+    high_of true false p q r = absurd cc
+    high_of false b p q r = absurd cc
+
+and_false : (a : Bool) → (a && false) ≡ false
+and_false true = refl
+and_false false = refl
+
+not_no : (d : ℕ) (ds : List ℕ) → is_ascii_digit d ≡ true → is_word (d ∷ ds) (codes "NO") ≡ false
+not_no d ds e =
+    let bounds : (48 ≤ d) × (d ≤ 57) = digit_bounds d e in
+    let high : d ≤ 57 = bounds.1 in
+    let small : nat_lt d 65 ≡ true = grind arith in
+    let other : nat_eq d 110 ≡ false = grind arith in
+    rw small (rw other refl)
+
+not_zero : (d : ℕ) (ds : List ℕ) → bytes_eq (d ∷ (ds ++ 75 ∷ [])) (codes "0") ≡ false
+not_zero d [] = and_false _
+not_zero d (x ∷ ds) = and_false _
+
+no_digits : (ds : List ℕ) → is_digits (ds ++ 75 ∷ []) ≡ false
+unfolding is_digits
+no_digits ds =
+    let tail : list_all is_ascii_digit (ds ++ 75 ∷ []) ≡ false = list_all-append is_ascii_digit ds (75 ∷ []) ∙ and_false _ in
+    rw tail (and_false _)
+
+front_len : (ds : List ℕ) → length (ds ++ 75 ∷ []) - 1 ≡ length ds
+front_len ds = simp length-append (omega arith)
+
+unit_at : (ds : List ℕ) → slice_index (ds ++ 75 ∷ []) (length (ds ++ 75 ∷ []) - 1) ≡ 75
+unit_at ds = ap (λ (i : ℕ). slice_index (ds ++ 75 ∷ []) i) (front_len ds) ∙ get_or-append_seam ds 75 [] 0
+
+front_is : (ds : List ℕ) → take (length (ds ++ 75 ∷ []) - 1) (ds ++ 75 ∷ []) ≡ ds
+front_is ds = ap (λ (i : ℕ). take i (ds ++ 75 ∷ [])) (front_len ds) ∙ take-append_seam ds (75 ∷ [])
+
+units_read : (k : ℕ) (ds : List ℕ) → Writes k ds → length ds ≤ 10 → 1 ≤ k → k * 1024 ≤ 1099511627776 → units_in ds 1024 ≡ Fits (k * 1024)
+unfolding units_in
+units_read k ds w short low high =
+    let few : nat_le (length ds) 10 ≡ true = grind arith in
+    let some : nat_le 1 (k * 1024) ≡ true = grind arith in
+    let fits : nat_le (k * 1024) 1099511627776 ≡ true = grind arith in
+    rw (value_is k ds w) (rw few (rw some (rw fits refl)))
+
+unit_of_k : unit_of 75 ≡ 1024
+unfolding unit_of
+unit_of_k = refl
+
+interval_by : (k d : ℕ) (ds : List ℕ) → Writes k (d ∷ ds) → length (d ∷ ds) ≤ 10 → 1 ≤ k → k * 1024 ≤ 1099511627776 → is_ascii_digit d ≡ true → interval_in ((d ∷ ds) ++ 75 ∷ []) ≡ Fits (k * 1024)
+unfolding interval_in
+interval_by k d ds w short low high e =
+    rw (not_no d (ds ++ 75 ∷ []) e) (rw (not_zero d ds) (rw (no_digits (d ∷ ds)) (rw (unit_at (d ∷ ds)) (rw unit_of_k (rw (front_is (d ∷ ds)) (rw (digits_are k (d ∷ ds) w) (units_read k (d ∷ ds) w short low high)))))))
+
+first_digit : (d : ℕ) (ds : List ℕ) → list_all is_ascii_digit (d ∷ ds) ≡ true → is_ascii_digit d ≡ true
+first_digit d ds e = go (is_ascii_digit d) e
+  where
+    go : (b : Bool) → (b && list_all is_ascii_digit ds) ≡ true → b ≡ true
+    go true e2 = refl
+    go false e2 = absurd cc
+
+interval_of : (k : ℕ) (ds : List ℕ) → Writes k ds → length ds ≤ 10 → 1 ≤ k → k * 1024 ≤ 1099511627776 → interval_in (ds ++ 75 ∷ []) ≡ Fits (k * 1024)
+interval_of k [] w short low high = let some : 0 < 0 = w.some in absurd (omega arith)
+interval_of k (d ∷ ds) w short low high = interval_by k d ds w short low high (first_digit d ds w.digits)
+
+pub interval_read : (k : ℕ) → 1 ≤ k → k * 1024 ≤ 1099511627776 → interval_in (decimal k ++ codes "K") ≡ Fits (k * 1024)
+interval_read k low high =
+    let w : Writes k (decimal k) = writes k (omega arith) in
+    let short : length (decimal k) ≤ 10 = length-decimal-le 10 k (omega arith) (omega arith) (omega arith) in
+    interval_of k (decimal k) w short low high
+
+-- a date
+no_name : (d : ℕ) (word : List ℕ) → is_ascii_digit d ≡ true → said_in named_days (d ∷ word) ≡ None
+unfolding said_in
+no_name d word e =
+    let bounds : (48 ≤ d) × (d ≤ 57) = digit_bounds d e in
+    let high : d ≤ 57 = bounds.1 in
+    let small : nat_lt d 65 ≡ true = grind arith in
+    let t : nat_eq d 116 ≡ false = grind arith in
+    let m : nat_eq d 109 ≡ false = grind arith in
+    let w : nat_eq d 119 ≡ false = grind arith in
+    let f : nat_eq d 102 ≡ false = grind arith in
+    let s : nat_eq d 115 ≡ false = grind arith in
+    rw small (rw t (rw m (rw w (rw f (rw s refl)))))
+
+date_text : ℕ → ℕ → ℕ → List ℕ
+date_text y m d = digit_of (m / 10) ∷ digit_of m ∷ 47 ∷ digit_of (d / 10) ∷ digit_of d ∷ 47 ∷ four_digits y
+
+year_is : (y : ℕ) → y < 10000 → 100 * two (digit_of (y / 1000)) (digit_of (y / 100)) + two (digit_of (y / 10)) (digit_of y) ≡ y
+unfolding two
+year_is y h = omega arith
+
+dated : (y m d : ℕ) → y < 10000 → m < 100 → d < 100 → date_in (date_text y m d) ≡ Some (day.Date y m d)
+unfolding date_in date_text
+dated y m d a b c =
+    rw (both_digits (m / 10) m) (rw (both_digits (d / 10) d) (rw (both_digits (y / 1000) (y / 100)) (rw (both_digits (y / 10) y) (rw (year_is y a) (rw (two_is m b) (rw (two_is d c) refl))))))
+
+pub date_read : (y m d : ℕ) → y < 10000 → m < 100 → d < 100 → day_in (two_digits m ++ codes "/" ++ two_digits d ++ codes "/" ++ four_digits y) ≡ Some (day.Date y m d)
+unfolding day_in date_text
+date_read y m d a b c = rw (no_name (digit_of (m / 10)) _ (digit_below (m / 10))) (dated y m d a b c)

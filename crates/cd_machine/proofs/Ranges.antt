@@ -1,5 +1,5 @@
 -- What a text says is in range.
-use Rattle.std.proofs.Common.{◌≡◌, if◌then◌else◌, ℕ, suc, ◌+◌, ◌*◌, ◌%◌, ◌<◌, ◌≤◌, nat_lt, nat_le, List, [], ◌∷◌, ◌++◌, length, length-append, take, drop, ◌-◌, ◌/◌, Bool, true, false, ◌&&◌, ◌||◌, is_some, Option, Some, None, Result, Ok, Err, refl, ap, sym, subst, ◌∙◌, arith}
+use Rattle.std.proofs.Common.{◌≡◌, if◌then◌else◌, ℕ, suc, ◌+◌, ◌*◌, ◌%◌, ◌==◌, ◌<◌, ◌≤◌, nat_lt, nat_le, List, [], ◌∷◌, ◌++◌, length, length-append, take, drop, ◌-◌, ◌/◌, Bool, true, false, ◌&&◌, ◌||◌, is_some, Option, Some, None, Result, Ok, Err, refl, ap, sym, subst, ◌∙◌, arith}
 use Rattle.std.specs.List.{list_all}
 use Rattle.std.specs.Prelude.{slice_index, codes}
 use Rattle.std.specs.Str.{bytes_eq}
@@ -96,17 +96,31 @@ interval_by false true c answer f x k e = absurd cc
 interval_by false false true answer f x k e = k e
 interval_by false false false answer f x k e = absurd cc
 
-units_fit : {B : Type 0} (digits : List ℕ) (unit : ℕ) (f : ℕ → B) (x : B) → fits_as f (units_in digits unit) ≡ Fits x → Fit ℕ B is_interval f x
+unit_by : (a b : Bool) (n : ℕ) → (n * (if a then 1024 else (if b then 1048576 else 0))) % 1024 ≡ 0
+unit_by true b n = omega arith
+unit_by false true n = omega arith
+unit_by false false n = omega arith
+
+unit_multiple : (n b : ℕ) → (n * unit_of b) % 1024 ≡ 0
+unfolding unit_of
+unit_multiple n b = unit_by (b == 75 || b == 107) (b == 77 || b == 109) n
+
+is_multiple : (n : ℕ) → n % 1024 ≡ 0 → nat_le n 1099511627776 ≡ true → is_interval n ≡ true
+is_multiple n e low = rw low (rw e refl)
+
+units_fit : {B : Type 0} (digits : List ℕ) (b : ℕ) (f : ℕ → B) (x : B) → fits_as f (units_in digits (unit_of b)) ≡ Fits x → Fit ℕ B is_interval f x
 unfolding units_in
-units_fit digits unit f x e = ranged_fit is_interval (nat_le (length digits) 10 && nat_le 1 (number_of digits * unit) && nat_le (number_of digits * unit) 1099511627776) (number_of digits * unit) f x
-    (λ e2. second_of _ _ e2) e
+units_fit digits b f x e =
+    let n : ℕ = number_of digits * unit_of b in
+    ranged_fit is_interval (nat_le (length digits) 10 && nat_le 1 n && nat_le n 1099511627776) n f x
+    (λ e2. is_multiple n (unit_multiple (number_of digits) b) (second_of _ _ e2)) e
 
 interval_fit : {B : Type 0} (word : List ℕ) (f : ℕ → B) (x : B) → fits_as f (interval_in word) ≡ Fits x → Fit ℕ B is_interval f x
 unfolding interval_in
 interval_fit word f x e =
     let front : List ℕ = take (length word - 1) word in
-    let unit : ℕ = unit_of (slice_index word (length word - 1)) in
-    interval_by (is_word word (codes "NO") || bytes_eq word (codes "0")) (is_digits word) (nat_lt 0 unit && is_digits front) (units_in front unit) f x (λ e2. units_fit front unit f x e2) e
+    let last : ℕ = slice_index word (length word - 1) in
+    interval_by (is_word word (codes "NO") || bytes_eq word (codes "0")) (is_digits word) (nat_lt 0 (unit_of last) && is_digits front) (units_in front (unit_of last)) f x (λ e2. units_fit front last f x e2) e
 
 -- what was given is in range
 abbrev pub FitGiven : Given → Type 0

@@ -1,5 +1,5 @@
 -- What the values of a Process may be.
-use Rattle.std.specs.Prelude.{ℕ, List, length, Bool, true, false, ◌&&◌, nat_le, nat_lt, Option, Some, None}
+use Rattle.std.specs.Prelude.{ℕ, ◌%◌, List, length, Bool, true, false, ◌&&◌, ◌==◌, nat_le, nat_lt, Option, Some, None}
 use Rattle.std.specs.List.{list_all}
 use Rattle.cd_types.specs.FileName.{is_file_name}
 use Rattle.cd_types.specs.Label.{is_label}
@@ -23,9 +23,9 @@ within low high n = nat_le low n && nat_le n high
 abbrev pub is_timed : Start → Bool
 is_timed start = nat_lt start.seconds 86400
 
--- at most 2^40 bytes between two checkpoints
+-- the bytes between two checkpoints: at most 2^40, in units of 1,024
 abbrev pub is_interval : ℕ → Bool
-is_interval n = nat_le n 1099511627776
+is_interval n = nat_le n 1099511627776 && n % 1024 == 0
 
 -- what the PROCESS statement says
 abbrev pub is_card : Card → Bool
