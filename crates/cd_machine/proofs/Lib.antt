@@ -13,3 +13,5 @@ pub mod Texts
 pub mod Later
 pub mod Whole
 pub mod Examples
+pub mod Printed
+pub mod Ranges

@@ -3,3 +3,4 @@ pub mod Machine
 pub mod Placed
 pub mod Reached
 pub mod Examples
+pub mod Ranges
