@@ -1,0 +1,2 @@
+mod Joint
+mod Touching

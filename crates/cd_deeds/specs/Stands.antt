@@ -1,0 +1,90 @@
+-- How deeds that are done go with the node of the rules.
+use Rattle.std.specs.Prelude.{◌≡◌, ℕ, List, [], ◌∷◌, ◌++◌, Option, Some, None, if◌then◌else◌}
+use Rattle.cd_types.specs.declared.key.Key.{Key}
+use Rattle.cd_outside.specs.Shelf.{Shelf}
+use Rattle.cd_outside.specs.Lines.{Traffic, sent, GaveFront}
+use Rattle.cd_entries.specs.declared.entry.Entry.{Entry}
+use Rattle.cd_frames.specs.Frame.{frame_bytes}
+use Rattle.cd_frames.specs.Message.{Message}
+use Rattle.cd_status.specs.Keys.{same_key}
+use Rattle.cd_moves.specs.declared.session.Phase.{Phase}
+use Rattle.cd_moves.specs.Node.{Node, Deed, Keep, Touch, Begin, Go, does, sends}
+use Rattle.cd_deeds.specs.Calls.{ShelfTorn}
+use Rattle.cd_deeds.specs.declared.holders.Holding.{Holding}
+use Rattle.cd_deeds.specs.declared.fault.Fault.{Fault}
+use Rattle.cd_deeds.specs.declared.fault.Fault.TheVariants as fault
+
+-- the session that holds a key, where the newest holding comes first
+abbrev pub holder_of : List Holding → Key → Option ℕ
+holder_of [] key = None
+holder_of (holding ∷ holdings) key = if same_key holding.key key then Some holding.sid.number else holder_of holdings key
+
+-- What stands while the deeds of one session are done: the entries of the journal and the holdings, the newest first; the
+-- files; the phase of the session; and the bytes that went over the lines.
+pub record Spot : Type 0 where
+  pub entries : List Entry
+  pub shelf : Shelf
+  pub phase : Phase
+  pub holdings : List Holding
+  pub traffic : Traffic
+
+-- The node is one that stands so. What isn't told of the files isn't said.
+pub record Stands (told : Type 0) (sid : ℕ) (node : Node) (spot : Spot) : Type 0 where
+  pub journal : node.desk.journal ≡ spot.entries
+  pub shelf : told → node.shelf ≡ spot.shelf
+  pub phase : node.sessions.phase sid ≡ spot.phase
+  pub holder : (key : Key) → node.sessions.holder key ≡ holder_of spot.holdings key
+
+-- these frames were given to the session, each by one send
+abbrev pub gave : ℕ → List Message → Traffic → Traffic
+gave sid [] traffic = traffic
+gave sid (m ∷ frames) traffic = gave sid frames (sent sid (frame_bytes m) traffic)
+
+-- The deeds were done: each node that stood so is by the rules one that stands so now, and the session was given the frames
+-- that they send.
+pub record WereDone (files_told lines_told : Type 0) (sid : ℕ) (deeds : List Deed) (before after : Spot) : Type 0 where
+  pub node : (node : Node) → Stands files_told sid node before → Stands files_told sid (does sid deeds node) after
+  pub traffic : lines_told → after.traffic ≡ gave sid (sends deeds) before.traffic
+
+-- some of the frames were given, and a front of the next one
+pub record GaveSome (sid : ℕ) (frames : List Message) (before after : Traffic) : Type 0 where
+  pub given : List Message
+  pub torn : Message
+  pub more : List Message
+  pub parts : frames ≡ given ++ torn ∷ more
+  pub front : GaveFront sid (frame_bytes torn) (gave sid given before) after
+
+-- the lines where the deed failed
+abbrev pub TrafficTorn : ℕ → Deed → Traffic → Traffic → Type 0
+TrafficTorn sid (Go phase frames) before after = GaveSome sid frames before after
+TrafficTorn sid _ before after = after ≡ before
+
+-- A deed wasn't done: at most a part of what it changes outside was.
+pub record WasTorn (files_told lines_told : Type 0) (sid : ℕ) (deed : Deed) (before after : Spot) : Type 0 where
+  pub entries : after.entries ≡ before.entries
+  pub phase : after.phase ≡ before.phase
+  pub holdings : after.holdings ≡ before.holdings
+  pub shelf : files_told → ShelfTorn deed before.shelf after.shelf
+  pub traffic : lines_told → TrafficTorn sid deed before.traffic after.traffic
+
+-- the fault is one of this deed
+abbrev pub IsFaultOf : Deed → Fault → Type 0
+IsFaultOf (Keep e) fault.Disk = Unit {0}
+IsFaultOf (Keep e) (fault.JournalFull len) = Unit {0}
+IsFaultOf (Keep e) fault.NoMemory = Unit {0}
+IsFaultOf (Touch change) fault.Files = Unit {0}
+IsFaultOf (Begin key phase) fault.NoMemory = Unit {0}
+IsFaultOf (Go phase frames) fault.NoMemory = Unit {0}
+IsFaultOf (Go phase frames) fault.Line = Unit {0}
+IsFaultOf _ _ = ⊥
+
+-- The deeds were cut off: those before one of them were done, that one wasn't, and nothing was done of those behind it.
+pub record WereCut (files_told lines_told : Type 0) (sid : ℕ) (deeds : List Deed) (fault : Fault) (before after : Spot) : Type 0 where
+  pub done : List Deed
+  pub torn : Deed
+  pub more : List Deed
+  pub parts : deeds ≡ done ++ torn ∷ more
+  pub middle : Spot
+  pub first : WereDone files_told lines_told sid done before middle
+  pub rest : WasTorn files_told lines_told sid torn middle after
+  pub cause : IsFaultOf torn fault
