@@ -1,17 +1,21 @@
 -- Whatever comes in whatever phase, each deed of its row leaves a legal journal that has the earlier one behind it.
-use Rattle.std.proofs.Common.{◌≡◌, ℕ, zero, suc, ◌+◌, ◌≤◌, Bool, true, false, cond, ◌&&◌, leb, List, [], ◌∷◌, ◌++◌, Option, Some, None, inl, inr, refl, sym, ◌∙◌, ap, subst, min, arith}
-use Rattle.std.proofs.Math.Nat.{max-le}
+use Rattle.std.proofs.Common.{◌≡◌, ℕ, zero, suc, ◌+◌, ◌≤◌, Bool, true, false, cond, ◌&&◌, eqb, leb, List, [], ◌∷◌, ◌++◌, Option, Some, None, inl, inr, refl, sym, ◌∙◌, ap, subst, min, arith}
+use Rattle.std.proofs.Math.Nat.{max-le, min-le_right}
 use Rattle.std.proofs.lemmas.List.{append-nil}
-use Rattle.std.specs.Prelude.{◌||◌, not}
-use Rattle.std.proofs.lemmas.Bool.{cases_Bool, and_parts, and_from, or_cases, or_left, le-leb, leb-true, cond-true, cond-false, false≢true}
+use Rattle.std.specs.Prelude.{◌||◌, not, nat_lt, filter}
+use Rattle.std.specs.List.{list_any, cons_option, filter_map}
+use Rattle.std.proofs.lemmas.Bool.{cases_Bool, and_parts, and_from, or_cases, or_left, or_right, le-leb, leb-true, lt-ltb, eq-eqb, cond-true, cond-false, false≢true}
+use Rattle.cd_types.specs.Format.{◌>>=◌}
 use Rattle.cd_types.specs.declared.choices.Queue.{Queue}
 use Rattle.cd_types.specs.declared.choices.Queue.TheVariants as queue
+use Rattle.cd_types.specs.declared.choices.Reason.TheVariants as reason
 use Rattle.cd_types.specs.declared.rows.Placing.{Placing}
+use Rattle.cd_types.specs.declared.rows.Row.{Row}
 use Rattle.cd_entries.specs.declared.entry.Entry.{Entry}
 use Rattle.cd_entries.specs.declared.entry.Entry.TheVariants as entry
 use Rattle.cd_frames.specs.Message.{Message}
-use Rattle.cd_status.specs.Processes.{submission, is_live, moment_of, later_of, latest}
-use Rattle.cd_status.specs.Queue.{Waits, placing, queue_of, runs_in, retried, after_attempts}
+use Rattle.cd_status.specs.Processes.{Submission, submission, is_live, live_numbers, moment_of, later_of, latest}
+use Rattle.cd_status.specs.Queue.{Waits, placing, queue_of, queue_at, runs_in, is_due, goes_before, the_earlier, choice, row_made, row_of, rows, next_due, retried, after_wait, after_attempts}
 use Rattle.cd_legal.specs.Legal.{allowed, is_legal, is_empty, may_place, is_reason_in, is_hold}
 use Rattle.cd_legal.specs.PlacingsLaw.{well_placed}
 use Rattle.cd_legal.specs.Promises.{HavePriorities, WellPlaced}
@@ -22,7 +26,7 @@ use Rattle.cd_moves.specs.declared.session.Phase.TheVariants.{Gone}
 use Rattle.cd_moves.specs.declared.session.Then.{Then}
 use Rattle.cd_moves.specs.declared.session.Then.TheVariants.{Done, Next, Undo, Push, Offered, Onto, Piece}
 use Rattle.cd_moves.specs.Node.{Config, Desk, Sessions, Node, Deed, Keep, Touch, AskSize, AskBytes, Begin, Go, Part, only, did, does, Answers}
-use Rattle.cd_moves.specs.Rows.{is_by, are_allowed, checked, part_in, first_part, part_behind, asked, is_done, all_parts, most_parts, row, row_accept, row_end, row_trouble, is_dead, is_detached}
+use Rattle.cd_moves.specs.Rows.{is_by, is_formed, may_record, are_allowed, checked, part_in, first_part, part_behind, asked, is_done, all_parts, most_parts, row, row_accept, row_end, row_trouble, is_dead, is_detached, place_in, connect, call, row_chosen, row_choose, busy}
 use Rattle.cd_moves.specs.Promises.{IsLegalAfter, StaysLegal}
 
 -- A journal into which a row was recorded.
@@ -43,13 +47,20 @@ latest_more e journal now by early = later_by (moment_of e) (latest journal) now
 kept_parts : (read : Reading) (now : ℕ) (journal : List Entry) (e : Entry) (deeds : List Deed) → are_allowed read now journal (Keep e ∷ deeds) ≡ true
     → (allowed read journal e ≡ true) × (is_by now (moment_of e) ≡ true) × (are_allowed read now (e ∷ journal) deeds ≡ true)
 kept_parts read now journal e deeds fits =
-    let outer = and_parts (allowed read journal e && is_by now (moment_of e)) (are_allowed read now (e ∷ journal) deeds) fits in
-    let inner = and_parts (allowed read journal e) (is_by now (moment_of e)) outer.0 in
-    (inner.0, inner.1, outer.1)
+    let outer = and_parts (may_record read now journal e) (are_allowed read now (e ∷ journal) deeds) fits in
+    let inner = and_parts (allowed read journal e && is_by now (moment_of e)) (is_formed e) outer.0 in
+    let both = and_parts (allowed read journal e) (is_by now (moment_of e)) inner.0 in
+    (both.0, both.1, outer.1)
 
-kept_fits : (read : Reading) (now : ℕ) (journal : List Entry) (e : Entry) (deeds : List Deed) → allowed read journal e ≡ true → is_by now (moment_of e) ≡ true
+-- an entry of this very moment
+of_now : (read : Reading) (now : ℕ) (journal : List Entry) (e : Entry) → moment_of e ≡ Some now → allowed read journal e ≡ true → is_formed e ≡ true → may_record read now journal e ≡ true
+of_now read now journal e at fits formed =
+    and_from (allowed read journal e && is_by now (moment_of e)) (is_formed e)
+    (and_from (allowed read journal e) _ fits (ap (is_by now) at ∙ le-leb now now (omega arith))) formed
+
+kept_fits : (read : Reading) (now : ℕ) (journal : List Entry) (e : Entry) (deeds : List Deed) → may_record read now journal e ≡ true
     → are_allowed read now (e ∷ journal) deeds ≡ true → are_allowed read now journal (Keep e ∷ deeds) ≡ true
-kept_fits read now journal e deeds fits by rest = and_from (allowed read journal e && is_by now (moment_of e)) _ (and_from (allowed read journal e) _ fits by) rest
+kept_fits read now journal e deeds fits rest = and_from (may_record read now journal e) _ fits rest
 
 -- each part of a row whose entries may follow leaves a legal journal
 part_legal : (sid now : ℕ) (done more : List Deed) (node : Node) → is_legal node.desk.config.read node.desk.journal ≡ true
@@ -107,8 +118,8 @@ both_fit : (sid now : ℕ) (read : Reading) (first second : List Deed) (node : N
     → are_allowed read now (does sid first node).desk.journal second ≡ true → are_allowed read now node.desk.journal (first ++ second) ≡ true
 both_fit sid now read [] second node fits more = more
 both_fit sid now read (Keep e ∷ first) second node fits more =
-    let parts = kept_parts read now node.desk.journal e first fits in
-    kept_fits read now node.desk.journal e (first ++ second) parts.0 parts.1 (both_fit sid now read first second (did sid (Keep e) node) parts.2 more)
+    let parts = and_parts (may_record read now node.desk.journal e) (are_allowed read now (e ∷ node.desk.journal) first) fits in
+    kept_fits read now node.desk.journal e (first ++ second) parts.0 (both_fit sid now read first second (did sid (Keep e) node) parts.1 more)
 both_fit sid now read (Touch change ∷ first) second node fits more = both_fit sid now read first second (did sid (Touch change) node) fits more
 both_fit sid now read (AskSize name ∷ first) second node fits more = both_fit sid now read first second node fits more
 both_fit sid now read (AskBytes name at len ∷ first) second node fits more = both_fit sid now read first second node fits more
@@ -146,6 +157,23 @@ retried_prty waits now attempts prty =
     let P : Placing → Type 0 = λ p. p.prty ≡ prty in
     either_placing (leb attempts waits.short_attempts) _ _ P refl (either_placing (leb attempts (waits.short_attempts + waits.long_attempts)) _ _ P refl refl)
 
+-- it is due at a moment
+due_formed : (waits : Waits) (now attempts prty : ℕ) → nat_lt (after_attempts waits now attempts prty).due 250000000000 ≡ true
+due_formed waits now attempts prty =
+    let P : Placing → Type 0 = λ p. nat_lt p.due 250000000000 ≡ true in
+    either_placing (leb attempts waits.short_attempts) _ _ P (soon waits.short) (either_placing (leb attempts (waits.short_attempts + waits.long_attempts)) _ _ P (soon waits.long) refl)
+  where
+    soon : (wait : ℕ) → nat_lt (after_wait now wait) 250000000000 ≡ true
+    soon wait = let low : min (now + wait) 249999999999 ≤ 249999999999 = min-le_right (now + wait) 249999999999 in lt-ltb (min (now + wait) 249999999999) 250000000000 (omega (arith, low))
+
+retried_formed : (waits : Waits) (now : ℕ) (placed : Placing) (n : ℕ) → is_formed (entry.Placed n (retried waits now placed) now) ≡ true
+unfolding is_formed
+retried_formed waits now placed n = due_formed waits now (min (placed.attempts + 1) 65535) placed.prty
+
+hold_formed : (n now : ℕ) (placed : Placing) → is_formed (place_in n now queue.Hold reason.UnknownNode placed) ≡ true
+unfolding is_formed
+hold_formed n now placed = refl
+
 module _ (desk : Desk) (priorities : HavePriorities desk.config.read) (legal : is_legal desk.config.read desk.journal ≡ true) (now : ℕ) (on_time : latest desk.journal ≤ now) where
   retry_allowed : (n : ℕ) (placed : Placing) (waits : Waits) → placing desk.journal n ≡ Some placed → is_live desk.journal n ≡ true → is_running now placed ≡ true
       → allowed desk.config.read desk.journal (entry.Placed n (retried waits now placed) now) ≡ true
@@ -177,7 +205,8 @@ module _ (desk : Desk) (priorities : HavePriorities desk.config.read) (legal : i
             let e : Entry = entry.Placed n (retried (waits_for desk (submission desk.journal n)) now placed) now in
             let kept : are_allowed desk.config.read now desk.journal (Keep e ∷ last ∷ []) ≡ true =
             kept_fits desk.config.read now desk.journal e (last ∷ [])
-            (retry_allowed n placed (waits_for desk (submission desk.journal n)) is parts.0 parts.1) (le-leb now now (omega arith)) (always (e ∷ desk.journal)) in
+            (of_now desk.config.read now desk.journal e refl (retry_allowed n placed (waits_for desk (submission desk.journal n)) is parts.0 parts.1)
+            (retried_formed (waits_for desk (submission desk.journal n)) now placed n)) (always (e ∷ desk.journal)) in
             subst (λ (deeds : List Deed). are_allowed desk.config.read now desk.journal (deeds ++ last ∷ []) ≡ true)
             (sym (cond-true (is_live desk.journal n && is_running now placed) (Keep e ∷ []) [] runs)) kept
         | inr rests ↦
@@ -285,3 +314,115 @@ fault_stays node priorities sid now deeds stays done more split =
 pub row_accept_stays : (node : Node) → (sid now : ℕ)
     → is_legal node.desk.config.read node.desk.journal ≡ true → latest node.desk.journal ≤ now → StaysLegal sid now node row_accept
 row_accept_stays node sid now legal early = stays sid now node row_accept legal early refl
+
+-- The choice: the Process that is taken is live, stands as its row says, and runs.
+
+abbrev AllSo : (ℕ → Bool) → List ℕ → Type 0
+AllSo so [] = Unit {0}
+AllSo so (n ∷ ns) = (so n ≡ true) × AllSo so ns
+
+all_more : (so more : ℕ → Bool) → ((n : ℕ) → so n ≡ true → more n ≡ true) → (ns : List ℕ) → AllSo so ns → AllSo more ns
+all_more so more then [] all = tt
+all_more so more then (n ∷ ns) all = (then n all.0, all_more so more then ns all.1)
+
+all_last : (so : ℕ → Bool) (ns : List ℕ) (n : ℕ) → AllSo so ns → so n ≡ true → AllSo so (ns ++ n ∷ [])
+all_last so [] n all last = (last, tt)
+all_last so (m ∷ ns) n all last = (all.0, all_last so ns n all.1 last)
+
+all_filtered : (so test : ℕ → Bool) (ns : List ℕ) → AllSo so ns → AllSo (λ n. test n && so n) (filter test ns)
+all_filtered so test [] all = tt
+all_filtered so test (n ∷ ns) all =
+    elim (cases_Bool (test n)) [
+      | inl kept ↦ subst (λ (rest : List ℕ). AllSo (λ m. test m && so m) rest) (sym (cond-true (test n) (n ∷ filter test ns) (filter test ns) kept)) (and_from (test n) (so n) kept all.0, all_filtered so test ns all.1)
+      | inr left ↦ subst (λ (rest : List ℕ). AllSo (λ m. test m && so m) rest) (sym (cond-false (test n) (n ∷ filter test ns) (filter test ns) left)) (all_filtered so test ns all.1)
+    ]
+
+all_live : (journal : List Entry) → AllSo (is_live journal) (live_numbers journal)
+unfolding is_live live_numbers
+all_live [] = tt
+all_live (entry.Submitted number moment origin card text ∷ journal) =
+    all_last (is_live (entry.Submitted number moment origin card text ∷ journal)) (live_numbers journal) number
+    (all_more (is_live journal) (is_live (entry.Submitted number moment origin card text ∷ journal)) (λ n live. or_right (eqb number n) (is_live journal n) live) (live_numbers journal) (all_live journal))
+    (or_left (eqb number number) (is_live journal number) (eq-eqb number number refl))
+all_live (entry.Closed number how moment ∷ journal) = all_filtered (is_live journal) (λ n. not (eqb number n)) (live_numbers journal) (all_live journal)
+all_live (e ∷ journal) = all_live journal
+
+-- a row of such a Process
+record IsLiveRow (journal : List Entry) (row : Row) : Type 0 where
+  live : is_live journal row.number ≡ true
+  placed : placing journal row.number ≡ Some row.placing
+
+abbrev AreLiveRows : List Entry → List Row → Type 0
+AreLiveRows journal [] = Unit {0}
+AreLiveRows journal (row ∷ more) = IsLiveRow journal row × AreLiveRows journal more
+
+one_row : (journal : List Entry) (n : ℕ) (s : Option Submission) (p : Option Placing) (more : List Row) → is_live journal n ≡ true → placing journal n ≡ p → AreLiveRows journal more
+    → AreLiveRows journal (cons_option (s >>= (λ found. p >>= (λ placed. Some (row_made n found.card placed)))) more)
+one_row journal n None p more live is rest = rest
+one_row journal n (Some s) None more live is rest = rest
+one_row journal n (Some s) (Some placed) more live is rest = (record { live = live; placed = is }, rest)
+
+live_rows : (journal : List Entry) (ns : List ℕ) → AllSo (is_live journal) ns → AreLiveRows journal (filter_map (row_of journal) ns)
+live_rows journal [] all = tt
+live_rows journal (n ∷ ns) all = one_row journal n (submission journal n) (placing journal n) (filter_map (row_of journal) ns) all.0 refl (live_rows journal ns all.1)
+
+-- the row that is chosen is such a row, and runs
+record MayRun (journal : List Entry) (now : ℕ) (row : Row) : Type 0 where
+  live_row : IsLiveRow journal row
+  runs : is_running now row.placing ≡ true
+
+abbrev OfChosen : List Entry → ℕ → Option Row → Type 0
+OfChosen journal now None = Unit {0}
+OfChosen journal now (Some row) = MayRun journal now row
+
+earlier_runs : (journal : List Entry) (now : ℕ) (row : Row) (other : Option Row) → MayRun journal now row → OfChosen journal now other → MayRun journal now (the_earlier row other)
+earlier_runs journal now row None own others = own
+earlier_runs journal now row (Some other) own others = elim (goes_before other row) as (λ b. MayRun journal now (cond b other row)) [ true ↦ others | false ↦ own ]
+
+choice_runs : (journal : List Entry) (now : ℕ) (numbers : List ℕ) (among : List Row) → AreLiveRows journal among → OfChosen journal now (choice now numbers among)
+choice_runs journal now numbers [] all = tt
+choice_runs journal now numbers (row ∷ more) all =
+    let rest : OfChosen journal now (choice now numbers more) = choice_runs journal now numbers more all.1 in
+    elim (cases_Bool (is_due now numbers row)) [
+      | inl due ↦
+          let runs : is_running now row.placing ≡ true = (and_parts (runs_in (queue_at now row.placing)) (not (list_any (λ n. eqb n row.number) numbers)) due).0 in
+          subst (λ (chosen : Option Row). OfChosen journal now chosen)
+          (sym (cond-true (is_due now numbers row) (Some (the_earlier row (choice now numbers more))) (choice now numbers more) due))
+          (earlier_runs journal now row (choice now numbers more) (record { live_row = all.0; runs = runs }) rest)
+      | inr not_due ↦
+          subst (λ (chosen : Option Row). OfChosen journal now chosen)
+          (sym (cond-false (is_due now numbers row) (Some (the_earlier row (choice now numbers more))) (choice now numbers more) not_due)) rest
+    ]
+
+module _ (desk : Desk) (priorities : HavePriorities desk.config.read) (legal : is_legal desk.config.read desk.journal ≡ true) (now : ℕ) (on_time : latest desk.journal ≤ now) where
+  -- the Process is held
+  hold_allowed : (n : ℕ) (placed : Placing) → placing desk.journal n ≡ Some placed → is_live desk.journal n ≡ true
+      → allowed desk.config.read desk.journal (place_in n now queue.Hold reason.UnknownNode placed) ≡ true
+  unfolding allowed
+  hold_allowed n placed is live =
+      let well : WellPlaced (runs_itself desk.journal n) placed = well_placed desk.config.read priorities desk.journal n placed legal is in
+      let place : may_place desk.journal n (record { queue = queue.Hold; reason = reason.UnknownNode; due = 0; attempts = 0; prty = placed.prty }) ≡ true =
+      and_from _ _ (and_from _ _ (and_from _ _ (and_from _ _ live refl) (le-leb 1 placed.prty well.low)) (le-leb placed.prty 15 well.high)) (or_right (runs_itself desk.journal n) true refl) in
+      and_from _ _ (and_from _ _ (not_empty desk.journal n live) (le-leb (latest desk.journal) now on_time)) place
+
+  call_fits : (row : Row) (waits : Option Waits) (connected : Bool) → MayRun desk.journal now row → are_allowed desk.config.read now desk.journal (call desk now connected row waits) ≡ true
+  call_fits row None connected may =
+      let e : Entry = place_in row.number now queue.Hold reason.UnknownNode row.placing in
+      kept_fits desk.config.read now desk.journal e []
+      (of_now desk.config.read now desk.journal e refl (hold_allowed row.number row.placing may.live_row.placed may.live_row.live) (hold_formed row.number now row.placing)) refl
+  call_fits row (Some waits) true may = refl
+  call_fits row (Some waits) false may =
+      let e : Entry = entry.Placed row.number (retried waits now row.placing) now in
+      kept_fits desk.config.read now desk.journal e []
+      (of_now desk.config.read now desk.journal e refl (retry_allowed desk priorities legal now on_time row.number row.placing waits may.live_row.placed may.live_row.live may.runs) (retried_formed waits now row.placing row.number)) refl
+
+  chosen_fits : (chosen : Option Row) (connected : Bool) → OfChosen desk.journal now chosen → are_allowed desk.config.read now desk.journal (row_chosen desk now connected chosen) ≡ true
+  chosen_fits None connected of_chosen = refl
+  chosen_fits (Some row) connected of_chosen = call_fits row (desk.config.partner row.snode) connected of_chosen
+
+pub row_choose_stays : (node : Node) → HavePriorities node.desk.config.read → (sid now : ℕ) (sessions : Sessions) (connected : Bool)
+    → is_legal node.desk.config.read node.desk.journal ≡ true → latest node.desk.journal ≤ now → StaysLegal sid now (record node { sessions = sessions }) (row_choose node now connected)
+row_choose_stays node priorities sid now sessions connected legal early =
+    stays sid now (record node { sessions = sessions }) (row_choose node now connected) legal early
+    (chosen_fits node.desk priorities legal now early (next_due node.desk.journal now (busy node.sessions)) connected
+    (choice_runs node.desk.journal now (busy node.sessions) (rows node.desk.journal) (live_rows node.desk.journal (live_numbers node.desk.journal) (all_live node.desk.journal))))

@@ -1,4 +1,4 @@
-use Rattle.cd_moves.specs.RowsLaw.{row_stays, row_accept_stays, row_end_stays, row_trouble_stays, fault_stays}
+use Rattle.cd_moves.specs.RowsLaw.{row_stays, row_accept_stays, row_choose_stays, row_end_stays, row_trouble_stays, fault_stays}
 use Rattle.cd_moves.proofs.law.law_of_rows.Goals as goal
 
 pub returns-clause-frame : goal.returns-clause-frame
@@ -15,3 +15,6 @@ returns-clause-accept c = row_accept_stays
 
 pub returns-clause-fault : goal.returns-clause-fault
 returns-clause-fault c = fault_stays
+
+pub returns-clause-choose : goal.returns-clause-choose
+returns-clause-choose c = row_choose_stays
