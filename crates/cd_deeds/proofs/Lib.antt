@@ -1,2 +1,4 @@
 mod Joint
+mod Recording
+mod Sending
 mod Touching

@@ -1,10 +1,12 @@
 -- How deeds that are done go with the node of the rules.
-use Rattle.std.specs.Prelude.{◌≡◌, ℕ, List, [], ◌∷◌, ◌++◌, Option, Some, None, if◌then◌else◌}
+use Rattle.std.specs.Prelude.{◌≡◌, ℕ, ◌≤◌, List, length, [], ◌∷◌, ◌++◌, Option, Some, None, if◌then◌else◌}
 use Rattle.cd_types.specs.declared.key.Key.{Key}
 use Rattle.cd_outside.specs.Shelf.{Shelf}
 use Rattle.cd_outside.specs.Lines.{Traffic, sent, GaveFront}
+use Rattle.cd_journal.specs.declared.fault.JournalFault.{JournalFault}
+use Rattle.cd_journal.specs.declared.fault.JournalFault.TheVariants as of_journal
 use Rattle.cd_entries.specs.declared.entry.Entry.{Entry}
-use Rattle.cd_frames.specs.Frame.{frame_bytes}
+use Rattle.cd_frames.specs.Frame.{frame_bytes, body_bytes, IsWritable}
 use Rattle.cd_frames.specs.Message.{Message}
 use Rattle.cd_status.specs.Keys.{same_key}
 use Rattle.cd_moves.specs.declared.session.Phase.{Phase}
@@ -67,6 +69,21 @@ pub record WasTorn (files_told lines_told : Type 0) (sid : ℕ) (deed : Deed) (b
   pub shelf : files_told → ShelfTorn deed before.shelf after.shelf
   pub traffic : lines_told → TrafficTorn sid deed before.traffic after.traffic
 
+-- a frame that can be sent: each field is in its range, and it isn't too long
+pub record IsSendable (m : Message) : Type 0 where
+  pub writable : IsWritable m
+  pub short : length (body_bytes m) ≤ 131072
+
+abbrev pub AreSendable : List Message → Type 0
+AreSendable [] = Unit {0}
+AreSendable (m ∷ frames) = IsSendable m × AreSendable frames
+
+-- the fault is one of sending frames
+abbrev pub IsFaultOfSending : Fault → Type 0
+IsFaultOfSending fault.NoMemory = Unit {0}
+IsFaultOfSending fault.Line = Unit {0}
+IsFaultOfSending _ = ⊥
+
 -- the fault is one of this deed
 abbrev pub IsFaultOf : Deed → Fault → Type 0
 IsFaultOf (Keep e) fault.Disk = Unit {0}
@@ -74,8 +91,7 @@ IsFaultOf (Keep e) (fault.JournalFull len) = Unit {0}
 IsFaultOf (Keep e) fault.NoMemory = Unit {0}
 IsFaultOf (Touch change) fault.Files = Unit {0}
 IsFaultOf (Begin key phase) fault.NoMemory = Unit {0}
-IsFaultOf (Go phase frames) fault.NoMemory = Unit {0}
-IsFaultOf (Go phase frames) fault.Line = Unit {0}
+IsFaultOf (Go phase frames) told = IsFaultOfSending told
 IsFaultOf _ _ = ⊥
 
 -- The deeds were cut off: those before one of them were done, that one wasn't, and nothing was done of those behind it.
@@ -88,3 +104,10 @@ pub record WereCut (files_told lines_told : Type 0) (sid : ℕ) (deeds : List De
   pub first : WereDone files_told lines_told sid done before middle
   pub rest : WasTorn files_told lines_told sid torn middle after
   pub cause : IsFaultOf torn fault
+
+-- a fault of the journal in a deed
+abbrev pub fault_of : JournalFault → Fault
+fault_of of_journal.Disk = fault.Disk
+fault_of (of_journal.Full len) = fault.JournalFull len
+fault_of (of_journal.Unfit at) = fault.NoMemory
+fault_of of_journal.NoMemory = fault.NoMemory

@@ -3,7 +3,10 @@
 
 mod fault;
 mod holders;
+mod registry;
+mod session;
 mod touch;
 
 pub use fault::Fault;
 pub use holders::{Holders, Holding};
+pub use registry::Registry;
