@@ -20,7 +20,8 @@ use Rattle.cd_entries.specs.declared.entry.Entry.TheVariants as entry
 use Rattle.cd_entries.specs.Entry.{entry_bytes}
 use Rattle.cd_deeds.specs.Joint.{StandsFor}
 use Rattle.cd_deeds.specs.Registry.{RegistryState, IsRegistry, IsWithOrWithout}
-use Rattle.cd_deeds.specs.Stands.{fault_of}
+use Rattle.cd_moves.specs.Node.{Deed}
+use Rattle.cd_deeds.specs.Stands.{fault_of, IsKeptOrNot}
 use Rattle.cd_deeds.specs.declared.fault.Fault.{Fault}
 use Rattle.cd_deeds.specs.declared.fault.Fault.TheVariants as fault
 
@@ -100,3 +101,7 @@ registry_stays old new before after is keeps same untouched = subst (λ (disk : 
 -- the same of a journal that was moved
 pub keeps_through : (old was now new : Held) → KeepsList was now → was ≡ old → new ≡ now → KeepsList old new
 keeps_through old was now new keeps before after = subst (λ (held : Held). KeepsList old held) (sym after) (subst (λ (held : Held). KeepsList held now) before keeps)
+
+-- a deed that records nothing
+pub unchanged_by : (deed : Deed) (registry : RegistryState) (disk : DiskState) (from : ℕ) → IsRegistry registry disk → last_of disk.calls ≤ from → Moments (LeftAt disk) (LeftAt disk) from (IsKeptOrNot deed registry.entries)
+unchanged_by deed registry disk from is order = moments_none disk disk from (IsKeptOrNot deed registry.entries) refl order (λ image left. inl (rests_image registry disk image is left))

@@ -1,17 +1,22 @@
 -- How deeds that are done go with the node of the rules.
-use Rattle.std.specs.Prelude.{◌≡◌, ℕ, ◌≤◌, List, length, [], ◌∷◌, ◌++◌, Option, Some, None, if◌then◌else◌}
+use Rattle.std.specs.Prelude.{◌≡◌, ◌⊎◌, ℕ, ◌+◌, ◌^◌, ◌<◌, ◌≤◌, List, length, true, [], ◌∷◌, ◌++◌, Option, Some, None, if◌then◌else◌}
 use Rattle.cd_types.specs.declared.key.Key.{Key}
 use Rattle.cd_outside.specs.Shelf.{Shelf}
 use Rattle.cd_outside.specs.Lines.{Traffic, sent, GaveFront}
 use Rattle.cd_journal.specs.declared.fault.JournalFault.{JournalFault}
 use Rattle.cd_journal.specs.declared.fault.JournalFault.TheVariants as of_journal
 use Rattle.cd_entries.specs.declared.entry.Entry.{Entry}
+use Rattle.cd_entries.specs.Entry as an_entry
+use Rattle.cd_entries.specs.Entry.{entry_bytes}
 use Rattle.cd_frames.specs.Frame.{frame_bytes, body_bytes, IsWritable}
 use Rattle.cd_frames.specs.Message.{Message}
+use Rattle.cd_legal.specs.Legal.{allowed}
+use Rattle.cd_legal.specs.Steps.{Reading}
 use Rattle.cd_status.specs.Keys.{same_key}
 use Rattle.cd_moves.specs.declared.session.Phase.{Phase}
 use Rattle.cd_moves.specs.Node.{Node, Deed, Keep, Touch, Begin, Go, does, sends}
 use Rattle.cd_deeds.specs.Calls.{ShelfTorn}
+use Rattle.cd_deeds.specs.Joint.{StandsFor}
 use Rattle.cd_deeds.specs.declared.holders.Holding.{Holding}
 use Rattle.cd_deeds.specs.declared.fault.Fault.{Fault}
 use Rattle.cd_deeds.specs.declared.fault.Fault.TheVariants as fault
@@ -30,6 +35,9 @@ pub record Spot : Type 0 where
   pub holdings : List Holding
   pub traffic : Traffic
 
+abbrev pub spot : List Entry → Shelf → Phase → List Holding → Traffic → Spot
+spot entries shelf phase holdings traffic = record { entries = entries; shelf = shelf; phase = phase; holdings = holdings; traffic = traffic }
+
 -- The node is one that stands so. What isn't told of the files isn't said.
 pub record Stands (told : Type 0) (sid : ℕ) (node : Node) (spot : Spot) : Type 0 where
   pub journal : node.desk.journal ≡ spot.entries
@@ -41,6 +49,29 @@ pub record Stands (told : Type 0) (sid : ℕ) (node : Node) (spot : Spot) : Type
 abbrev pub gave : ℕ → List Message → Traffic → Traffic
 gave sid [] traffic = traffic
 gave sid (m ∷ frames) traffic = gave sid frames (sent sid (frame_bytes m) traffic)
+
+-- What one deed makes of the entries, the phase, the holdings and the bytes.
+
+abbrev pub kept : Deed → List Entry → List Entry
+kept (Keep e) entries = e ∷ entries
+kept _ entries = entries
+
+abbrev pub phased : Deed → Phase → Phase
+phased (Begin key next) phase = next
+phased (Go next frames) phase = next
+phased _ phase = phase
+
+abbrev pub held : ℕ → Deed → List Holding → List Holding
+held sid (Begin key next) holdings = (record { key = key; sid = record { number = sid } }) ∷ holdings
+held sid _ holdings = holdings
+
+abbrev pub given : ℕ → Deed → Traffic → Traffic
+given sid (Go next frames) traffic = gave sid frames traffic
+given sid _ traffic = traffic
+
+-- a crash leaves a journal of the entries from before the deed, or of those after it
+abbrev pub IsKeptOrNot : Deed → List Entry → List ℕ → Type 0
+IsKeptOrNot deed entries bytes = StandsFor bytes entries ⊎ StandsFor bytes (kept deed entries)
 
 -- The deeds were done: each node that stood so is by the rules one that stands so now, and the session was given the frames
 -- that they send.
@@ -78,21 +109,43 @@ abbrev pub AreSendable : List Message → Type 0
 AreSendable [] = Unit {0}
 AreSendable (m ∷ frames) = IsSendable m × AreSendable frames
 
+-- an entry that can be recorded: it may follow the entries, each field is in its range, and it isn't too long
+pub record MayBeKept (read : Reading) (entries : List Entry) (e : Entry) : Type 0 where
+  pub next : allowed read entries e ≡ true
+  pub writable : an_entry.IsWritable e
+  pub short : length (entry_bytes e) ≤ 262144
+
+-- what a deed asks
+abbrev pub IsReady : Reading → List Entry → Deed → Type 0
+IsReady read entries (Keep e) = MayBeKept read entries e
+IsReady read entries (Go phase frames) = AreSendable frames
+IsReady read entries _ = Unit {0}
+
+-- what deeds ask, one after another
+abbrev pub AreReady : Reading → List Entry → List Deed → Type 0
+AreReady read entries [] = Unit {0}
+AreReady read entries (deed ∷ deeds) = IsReady read entries deed × AreReady read (kept deed entries) deeds
+
 -- the fault is one of sending frames
 abbrev pub IsFaultOfSending : Fault → Type 0
 IsFaultOfSending fault.NoMemory = Unit {0}
 IsFaultOfSending fault.Line = Unit {0}
 IsFaultOfSending _ = ⊥
 
--- the fault is one of this deed
+-- the fault is one of this deed; the journal is full where the entry makes it longer than 2^30 bytes
 abbrev pub IsFaultOf : Deed → Fault → Type 0
 IsFaultOf (Keep e) fault.Disk = Unit {0}
-IsFaultOf (Keep e) (fault.JournalFull len) = Unit {0}
+IsFaultOf (Keep e) (fault.JournalFull len) = 2 ^ 30 < len + 5 + length (entry_bytes e)
 IsFaultOf (Keep e) fault.NoMemory = Unit {0}
 IsFaultOf (Touch change) fault.Files = Unit {0}
 IsFaultOf (Begin key phase) fault.NoMemory = Unit {0}
 IsFaultOf (Go phase frames) told = IsFaultOfSending told
 IsFaultOf _ _ = ⊥
+
+-- the deed changes no file
+abbrev pub IsNoTouch : Deed → Type 0
+IsNoTouch (Touch change) = ⊥
+IsNoTouch _ = Unit {0}
 
 -- The deeds were cut off: those before one of them were done, that one wasn't, and nothing was done of those behind it.
 pub record WereCut (files_told lines_told : Type 0) (sid : ℕ) (deeds : List Deed) (fault : Fault) (before after : Spot) : Type 0 where

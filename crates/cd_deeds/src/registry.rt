@@ -133,6 +133,7 @@ impl<T: Texts> Registry<T> {
         ensures moments { P.told → Moments (LeftAt (P.state disk.old)) (LeftAt (P.state disk.new)) beat.old (IsWithOrWithout entry self.old.entries) }
 
         ensures full { (len : ℕ) → result ≡ Err (Fault.JournalFull len) → (len ≡ length_of self.old.journal) × (2 ^ 30 < len + 5 + length (entry_bytes entry)) }
+        ensures full_still { (len : ℕ) → result ≡ Err (Fault.JournalFull len) → length_of self.new.journal ≡ len }
         ensures fault { IfErr result (λ fault. IsFaultOf (Keep entry) fault) }
         ensures untouched { OnErr result (result ≢ Err Fault.Disk → (disk.new ≡ disk.old) × (beat.new ≡ beat.old)) }
         ensures cause { result ≡ Err Fault.Disk → Rose (P.faults disk.old) (P.faults disk.new) }

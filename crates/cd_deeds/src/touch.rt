@@ -6,8 +6,10 @@ ghost use Rattle.cd_outside.specs.Files.{files_last_of, FilesLeftAt};
 ghost use Rattle.cd_outside.specs.Shelf.{content_of};
 ghost use Rattle.cd_outside.specs.Moments.{Moments};
 ghost use Rattle.cd_moves.specs.Seen.{seen_deed};
-ghost use Rattle.cd_deeds.specs.Calls.{touched, FilesDid, ShelfTorn, FilesTorn, IsBeforeOrAfter};
+ghost use Rattle.cd_deeds.specs.Calls.{FilesDid, FilesTorn, IsBeforeOrAfter};
+ghost use Rattle.cd_deeds.specs.Stands.{IsFaultOf};
 
+use crate::Fault;
 use cd_moves::Deed;
 use cd_outside::{Beat, Failed, Files};
 
@@ -16,6 +18,7 @@ pub(crate) fn touch<F: Files>(files: &mut F, deed: &Deed<'_>, beat: &mut Beat) -
     requires { F.told → files_last_of (F.state files.old).calls ≤ beat.old }
     ensures done { F.told → OnOk result (FilesDid (seen_deed deed.now) beat.new (F.state files.old) (F.state files.new)) }
     ensures torn { F.told → OnErr result (FilesTorn (seen_deed deed.now) beat.old beat.new (F.state files.old) (F.state files.new)) }
+    ensures fault { OnErr result (IsFaultOf (seen_deed deed.now) Fault.Files) }
     ensures moments { F.told → Moments (FilesLeftAt (F.state files.old)) (FilesLeftAt (F.state files.new)) beat.old (IsBeforeOrAfter (seen_deed deed.now) (F.state files.old).shelf) }
     ensures order { F.told → files_last_of (F.state files.new).calls ≤ beat.new }
     ensures beat { beat.old ≤ beat.new }
