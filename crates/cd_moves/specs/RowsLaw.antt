@@ -98,7 +98,7 @@ part_extends sid (Begin key phase ∷ done) node = part_extends sid done (did si
 part_extends sid (Go phase frames ∷ done) node = part_extends sid done (did sid (Go phase frames) node)
 
 -- the texts are read as before
-same_config : (sid : ℕ) (done : List Deed) (node : Node) → (does sid done node).desk.config ≡ node.desk.config
+pub same_config : (sid : ℕ) (done : List Deed) (node : Node) → (does sid done node).desk.config ≡ node.desk.config
 same_config sid [] node = refl
 same_config sid (Keep e ∷ done) node = same_config sid done (did sid (Keep e) node)
 same_config sid (Touch change ∷ done) node = same_config sid done (did sid (Touch change) node)

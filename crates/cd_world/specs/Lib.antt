@@ -1,0 +1,3 @@
+pub mod GrownLaw
+pub mod Holds
+pub mod World
