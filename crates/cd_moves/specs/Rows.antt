@@ -3,6 +3,8 @@
 use Rattle.std.specs.Prelude.{ℕ, zero, suc, List, [], ◌∷◌, ◌++◌, length, min, Bool, true, false, not, ◌&&◌, ◌||◌, ◌==◌, nat_le, nat_lt, Option, Some, None, if◌then◌else◌}
 use Rattle.std.specs.List.{filter_map}
 use Rattle.std.specs.Str.{bytes_eq}
+use Rattle.cd_types.specs.Choices.{is_kept}
+use Rattle.cd_types.specs.FileName.{is_file_name}
 use Rattle.cd_types.specs.declared.choices.Cause.{Cause}
 use Rattle.cd_types.specs.declared.choices.Cause.TheVariants as cause
 use Rattle.cd_types.specs.declared.choices.Queue.{Queue}
@@ -52,10 +54,28 @@ abbrev pub is_by : ℕ → Option ℕ → Bool
 is_by now None = true
 is_by now (Some moment) = nat_le moment now
 
+-- it can be written: a place is one of 1,024, a file has a name of its form, a cause is one that is recorded, and a moment is one
+unfoldable pub is_formed : Entry → Bool
+is_formed (entry.Home name home) = true
+is_formed (entry.Submitted number moment origin card text) = true
+is_formed (entry.Placed number placed moment) = nat_lt placed.due 250000000000
+is_formed (entry.Started step kind attempt moment) = nat_lt step.place 1024
+is_formed (entry.Receiving r) = nat_lt r.key.place 1024 && is_file_name r.name
+is_formed (entry.Mark step offset) = nat_lt step.place 1024
+is_formed (entry.Result step o moment) = nat_lt step.place 1024 && is_kept o.cause
+is_formed (entry.Ended number place rc why bytes moment) = nat_lt place 1024 && is_kept why
+is_formed (entry.Closed number how moment) = true
+is_formed (entry.Forgot name home number) = true
+is_formed (entry.Dropped step rc why moment) = nat_lt step.place 1024 && is_kept why
+
+-- it may follow the journal at this moment, and is in its form
+abbrev pub may_record : Reading → ℕ → List Entry → Entry → Bool
+may_record read now journal e = allowed read journal e && is_by now (moment_of e) && is_formed e
+
 -- each entry may follow those before it, at this moment
 abbrev pub are_allowed : Reading → ℕ → List Entry → List Deed → Bool
 are_allowed read now journal [] = true
-are_allowed read now journal (Keep e ∷ deeds) = allowed read journal e && is_by now (moment_of e) && are_allowed read now (e ∷ journal) deeds
+are_allowed read now journal (Keep e ∷ deeds) = may_record read now journal e && are_allowed read now (e ∷ journal) deeds
 are_allowed read now journal (Touch change ∷ deeds) = are_allowed read now journal deeds
 are_allowed read now journal (AskSize name ∷ deeds) = are_allowed read now journal deeds
 are_allowed read now journal (AskBytes name at len ∷ deeds) = are_allowed read now journal deeds

@@ -1,11 +1,10 @@
 -- Whatever comes in whatever phase, each deed of its row leaves a legal journal that has the earlier one behind it.
 use Rattle.std.proofs.Common.{◌≡◌, ℕ, zero, suc, ◌+◌, ◌≤◌, Bool, true, false, cond, ◌&&◌, eqb, leb, List, [], ◌∷◌, ◌++◌, Option, Some, None, inl, inr, refl, sym, ◌∙◌, ap, subst, min, arith}
-use Rattle.std.proofs.Math.Nat.{max-le}
+use Rattle.std.proofs.Math.Nat.{max-le, min-le_right}
 use Rattle.std.proofs.lemmas.List.{append-nil}
-use Rattle.std.specs.Prelude.{◌||◌, not}
-use Rattle.std.specs.Prelude.{filter}
+use Rattle.std.specs.Prelude.{◌||◌, not, nat_lt, filter}
 use Rattle.std.specs.List.{list_any, cons_option, filter_map}
-use Rattle.std.proofs.lemmas.Bool.{cases_Bool, and_parts, and_from, or_cases, or_left, or_right, le-leb, leb-true, eq-eqb, cond-true, cond-false, false≢true}
+use Rattle.std.proofs.lemmas.Bool.{cases_Bool, and_parts, and_from, or_cases, or_left, or_right, le-leb, leb-true, lt-ltb, eq-eqb, cond-true, cond-false, false≢true}
 use Rattle.cd_types.specs.Format.{◌>>=◌}
 use Rattle.cd_types.specs.declared.choices.Queue.{Queue}
 use Rattle.cd_types.specs.declared.choices.Queue.TheVariants as queue
@@ -16,7 +15,7 @@ use Rattle.cd_entries.specs.declared.entry.Entry.{Entry}
 use Rattle.cd_entries.specs.declared.entry.Entry.TheVariants as entry
 use Rattle.cd_frames.specs.Message.{Message}
 use Rattle.cd_status.specs.Processes.{Submission, submission, is_live, live_numbers, moment_of, later_of, latest}
-use Rattle.cd_status.specs.Queue.{Waits, placing, queue_of, queue_at, runs_in, is_due, goes_before, the_earlier, choice, row_made, row_of, rows, next_due, retried, after_attempts}
+use Rattle.cd_status.specs.Queue.{Waits, placing, queue_of, queue_at, runs_in, is_due, goes_before, the_earlier, choice, row_made, row_of, rows, next_due, retried, after_wait, after_attempts}
 use Rattle.cd_legal.specs.Legal.{allowed, is_legal, is_empty, may_place, is_reason_in, is_hold}
 use Rattle.cd_legal.specs.PlacingsLaw.{well_placed}
 use Rattle.cd_legal.specs.Promises.{HavePriorities, WellPlaced}
@@ -27,7 +26,7 @@ use Rattle.cd_moves.specs.declared.session.Phase.TheVariants.{Gone}
 use Rattle.cd_moves.specs.declared.session.Then.{Then}
 use Rattle.cd_moves.specs.declared.session.Then.TheVariants.{Done, Next, Undo, Push, Offered, Onto, Piece}
 use Rattle.cd_moves.specs.Node.{Config, Desk, Sessions, Node, Deed, Keep, Touch, AskSize, AskBytes, Begin, Go, Part, only, did, does, Answers}
-use Rattle.cd_moves.specs.Rows.{is_by, are_allowed, checked, part_in, first_part, part_behind, asked, is_done, all_parts, most_parts, row, row_accept, row_end, row_trouble, is_dead, is_detached, place_in, connect, call, row_chosen, row_choose, busy}
+use Rattle.cd_moves.specs.Rows.{is_by, is_formed, may_record, are_allowed, checked, part_in, first_part, part_behind, asked, is_done, all_parts, most_parts, row, row_accept, row_end, row_trouble, is_dead, is_detached, place_in, connect, call, row_chosen, row_choose, busy}
 use Rattle.cd_moves.specs.Promises.{IsLegalAfter, StaysLegal}
 
 -- A journal into which a row was recorded.
@@ -48,13 +47,20 @@ latest_more e journal now by early = later_by (moment_of e) (latest journal) now
 kept_parts : (read : Reading) (now : ℕ) (journal : List Entry) (e : Entry) (deeds : List Deed) → are_allowed read now journal (Keep e ∷ deeds) ≡ true
     → (allowed read journal e ≡ true) × (is_by now (moment_of e) ≡ true) × (are_allowed read now (e ∷ journal) deeds ≡ true)
 kept_parts read now journal e deeds fits =
-    let outer = and_parts (allowed read journal e && is_by now (moment_of e)) (are_allowed read now (e ∷ journal) deeds) fits in
-    let inner = and_parts (allowed read journal e) (is_by now (moment_of e)) outer.0 in
-    (inner.0, inner.1, outer.1)
+    let outer = and_parts (may_record read now journal e) (are_allowed read now (e ∷ journal) deeds) fits in
+    let inner = and_parts (allowed read journal e && is_by now (moment_of e)) (is_formed e) outer.0 in
+    let both = and_parts (allowed read journal e) (is_by now (moment_of e)) inner.0 in
+    (both.0, both.1, outer.1)
 
-kept_fits : (read : Reading) (now : ℕ) (journal : List Entry) (e : Entry) (deeds : List Deed) → allowed read journal e ≡ true → is_by now (moment_of e) ≡ true
+-- an entry of this very moment
+of_now : (read : Reading) (now : ℕ) (journal : List Entry) (e : Entry) → moment_of e ≡ Some now → allowed read journal e ≡ true → is_formed e ≡ true → may_record read now journal e ≡ true
+of_now read now journal e at fits formed =
+    and_from (allowed read journal e && is_by now (moment_of e)) (is_formed e)
+    (and_from (allowed read journal e) _ fits (ap (is_by now) at ∙ le-leb now now (omega arith))) formed
+
+kept_fits : (read : Reading) (now : ℕ) (journal : List Entry) (e : Entry) (deeds : List Deed) → may_record read now journal e ≡ true
     → are_allowed read now (e ∷ journal) deeds ≡ true → are_allowed read now journal (Keep e ∷ deeds) ≡ true
-kept_fits read now journal e deeds fits by rest = and_from (allowed read journal e && is_by now (moment_of e)) _ (and_from (allowed read journal e) _ fits by) rest
+kept_fits read now journal e deeds fits rest = and_from (may_record read now journal e) _ fits rest
 
 -- each part of a row whose entries may follow leaves a legal journal
 part_legal : (sid now : ℕ) (done more : List Deed) (node : Node) → is_legal node.desk.config.read node.desk.journal ≡ true
@@ -112,8 +118,8 @@ both_fit : (sid now : ℕ) (read : Reading) (first second : List Deed) (node : N
     → are_allowed read now (does sid first node).desk.journal second ≡ true → are_allowed read now node.desk.journal (first ++ second) ≡ true
 both_fit sid now read [] second node fits more = more
 both_fit sid now read (Keep e ∷ first) second node fits more =
-    let parts = kept_parts read now node.desk.journal e first fits in
-    kept_fits read now node.desk.journal e (first ++ second) parts.0 parts.1 (both_fit sid now read first second (did sid (Keep e) node) parts.2 more)
+    let parts = and_parts (may_record read now node.desk.journal e) (are_allowed read now (e ∷ node.desk.journal) first) fits in
+    kept_fits read now node.desk.journal e (first ++ second) parts.0 (both_fit sid now read first second (did sid (Keep e) node) parts.1 more)
 both_fit sid now read (Touch change ∷ first) second node fits more = both_fit sid now read first second (did sid (Touch change) node) fits more
 both_fit sid now read (AskSize name ∷ first) second node fits more = both_fit sid now read first second node fits more
 both_fit sid now read (AskBytes name at len ∷ first) second node fits more = both_fit sid now read first second node fits more
@@ -151,6 +157,23 @@ retried_prty waits now attempts prty =
     let P : Placing → Type 0 = λ p. p.prty ≡ prty in
     either_placing (leb attempts waits.short_attempts) _ _ P refl (either_placing (leb attempts (waits.short_attempts + waits.long_attempts)) _ _ P refl refl)
 
+-- it is due at a moment
+due_formed : (waits : Waits) (now attempts prty : ℕ) → nat_lt (after_attempts waits now attempts prty).due 250000000000 ≡ true
+due_formed waits now attempts prty =
+    let P : Placing → Type 0 = λ p. nat_lt p.due 250000000000 ≡ true in
+    either_placing (leb attempts waits.short_attempts) _ _ P (soon waits.short) (either_placing (leb attempts (waits.short_attempts + waits.long_attempts)) _ _ P (soon waits.long) refl)
+  where
+    soon : (wait : ℕ) → nat_lt (after_wait now wait) 250000000000 ≡ true
+    soon wait = let low : min (now + wait) 249999999999 ≤ 249999999999 = min-le_right (now + wait) 249999999999 in lt-ltb (min (now + wait) 249999999999) 250000000000 (omega (arith, low))
+
+retried_formed : (waits : Waits) (now : ℕ) (placed : Placing) (n : ℕ) → is_formed (entry.Placed n (retried waits now placed) now) ≡ true
+unfolding is_formed
+retried_formed waits now placed n = due_formed waits now (min (placed.attempts + 1) 65535) placed.prty
+
+hold_formed : (n now : ℕ) (placed : Placing) → is_formed (place_in n now queue.Hold reason.UnknownNode placed) ≡ true
+unfolding is_formed
+hold_formed n now placed = refl
+
 module _ (desk : Desk) (priorities : HavePriorities desk.config.read) (legal : is_legal desk.config.read desk.journal ≡ true) (now : ℕ) (on_time : latest desk.journal ≤ now) where
   retry_allowed : (n : ℕ) (placed : Placing) (waits : Waits) → placing desk.journal n ≡ Some placed → is_live desk.journal n ≡ true → is_running now placed ≡ true
       → allowed desk.config.read desk.journal (entry.Placed n (retried waits now placed) now) ≡ true
@@ -182,7 +205,8 @@ module _ (desk : Desk) (priorities : HavePriorities desk.config.read) (legal : i
             let e : Entry = entry.Placed n (retried (waits_for desk (submission desk.journal n)) now placed) now in
             let kept : are_allowed desk.config.read now desk.journal (Keep e ∷ last ∷ []) ≡ true =
             kept_fits desk.config.read now desk.journal e (last ∷ [])
-            (retry_allowed n placed (waits_for desk (submission desk.journal n)) is parts.0 parts.1) (le-leb now now (omega arith)) (always (e ∷ desk.journal)) in
+            (of_now desk.config.read now desk.journal e refl (retry_allowed n placed (waits_for desk (submission desk.journal n)) is parts.0 parts.1)
+            (retried_formed (waits_for desk (submission desk.journal n)) now placed n)) (always (e ∷ desk.journal)) in
             subst (λ (deeds : List Deed). are_allowed desk.config.read now desk.journal (deeds ++ last ∷ []) ≡ true)
             (sym (cond-true (is_live desk.journal n && is_running now placed) (Keep e ∷ []) [] runs)) kept
         | inr rests ↦
@@ -383,12 +407,14 @@ module _ (desk : Desk) (priorities : HavePriorities desk.config.read) (legal : i
 
   call_fits : (row : Row) (waits : Option Waits) (connected : Bool) → MayRun desk.journal now row → are_allowed desk.config.read now desk.journal (call desk now connected row waits) ≡ true
   call_fits row None connected may =
-      kept_fits desk.config.read now desk.journal (place_in row.number now queue.Hold reason.UnknownNode row.placing) []
-      (hold_allowed row.number row.placing may.live_row.placed may.live_row.live) (le-leb now now (omega arith)) refl
+      let e : Entry = place_in row.number now queue.Hold reason.UnknownNode row.placing in
+      kept_fits desk.config.read now desk.journal e []
+      (of_now desk.config.read now desk.journal e refl (hold_allowed row.number row.placing may.live_row.placed may.live_row.live) (hold_formed row.number now row.placing)) refl
   call_fits row (Some waits) true may = refl
   call_fits row (Some waits) false may =
-      kept_fits desk.config.read now desk.journal (entry.Placed row.number (retried waits now row.placing) now) []
-      (retry_allowed desk priorities legal now on_time row.number row.placing waits may.live_row.placed may.live_row.live may.runs) (le-leb now now (omega arith)) refl
+      let e : Entry = entry.Placed row.number (retried waits now row.placing) now in
+      kept_fits desk.config.read now desk.journal e []
+      (of_now desk.config.read now desk.journal e refl (retry_allowed desk priorities legal now on_time row.number row.placing waits may.live_row.placed may.live_row.live may.runs) (retried_formed waits now row.placing row.number)) refl
 
   chosen_fits : (chosen : Option Row) (connected : Bool) → OfChosen desk.journal now chosen → are_allowed desk.config.read now desk.journal (row_chosen desk now connected chosen) ≡ true
   chosen_fits None connected of_chosen = refl
