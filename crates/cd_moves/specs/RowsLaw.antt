@@ -89,7 +89,7 @@ part_on_time sid now (Begin key phase ∷ done) more node early fits = part_on_t
 part_on_time sid now (Go phase frames ∷ done) more node early fits = part_on_time sid now done more (did sid (Go phase frames) node) early fits
 
 -- and one that has the earlier one behind it
-part_extends : (sid : ℕ) (done : List Deed) (node : Node) → (later : List Entry) × ((does sid done node).desk.journal ≡ later ++ node.desk.journal)
+pub part_extends : (sid : ℕ) (done : List Deed) (node : Node) → (later : List Entry) × ((does sid done node).desk.journal ≡ later ++ node.desk.journal)
 part_extends sid [] node = ([], refl)
 part_extends sid (Keep e ∷ done) node =
     let rest = part_extends sid done (did sid (Keep e) node) in

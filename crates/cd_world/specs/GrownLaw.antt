@@ -204,6 +204,13 @@ both_twice first second third one two = record {
   b = grown_twice third.clock first.b.node.desk second.b.node.desk third.b.node.desk (grown_later second.clock third.clock first.b.node.desk second.b.node.desk two.clock one.b) two.b;
 }
 
+-- a fault closes the session
+pub trouble_grown : (x : At) (w : World) (sound : BothSound w) (sid : ℕ) → BothGrown w (world_does x sid (row_trouble w.a.node sid w.clock) w)
+trouble_grown x w sound sid =
+    let trouble : Task = record { sid = sid; deeds = row_trouble w.a.node sid w.clock; world = w } in
+    let is : IsTask w trouble = record { desk = refl; other = refl; clock = refl; stays = row_trouble_stays w.a.node sound.a.priorities sid w.clock sound.a.legal sound.a.on_time } in
+    part_grown x w sound trouble is trouble.deeds [] (sym (append-nil trouble.deeds))
+
 module _ (x : At) (w : World) (sound : BothSound w) (happening : Happening) where
   pub within_grown : (k : ℕ) → BothGrown w (world_within x happening k w)
   within_grown k =
@@ -219,9 +226,7 @@ module _ (x : At) (w : World) (sound : BothSound w) (happening : Happening) wher
       let grown : BothGrown w first = within_grown k in
       let sound2 : BothSound short = record { a = grown.a.sound; b = grown.b.sound } in
       let sid : ℕ = (task w happening).sid in
-      let trouble : Task = record { sid = sid; deeds = row_trouble short.a.node sid short.clock; world = short } in
-      let is : IsTask short trouble = record { desk = refl; other = refl; clock = refl; stays = row_trouble_stays short.a.node sound2.a.priorities sid short.clock sound2.a.legal sound2.a.on_time } in
-      let rest : BothGrown short (world_does x sid (row_trouble short.a.node sid short.clock) short) = part_grown x short sound2 trouble is trouble.deeds [] (sym (append-nil trouble.deeds)) in
+      let rest : BothGrown short (world_does x sid (row_trouble short.a.node sid short.clock) short) = trouble_grown x short sound2 sid in
       both_twice w short (world_does x sid (row_trouble short.a.node sid short.clock) short) (record { clock = grown.clock; a = grown.a; b = grown.b }) rest
 
   stopped_grown : (k : ℕ) (image : shelves.FileMap) (b : Bool) → BothGrown w (cond b (down image (world_within x happening k w)) w)
@@ -236,7 +241,7 @@ module _ (w : World) (sound : BothSound w) where
   started_grown true = still w w sound refl refl refl
   started_grown false = still w _ sound refl refl refl
 
-  legal_more : (read : Reading) (e : Entry) (journal : List Entry) → is_legal read journal ≡ true → allowed read journal e ≡ true → is_legal read (e ∷ journal) ≡ true
+  pub legal_more : (read : Reading) (e : Entry) (journal : List Entry) → is_legal read journal ≡ true → allowed read journal e ≡ true → is_legal read (e ∷ journal) ≡ true
   unfolding is_legal
   legal_more read e journal legal fits = and_from (is_legal read journal) (allowed read journal e) legal fits
 
