@@ -1,3 +1,4 @@
+pub mod Cabinet
 pub mod Exchange
 pub mod Feeds
 pub mod FileImage
@@ -5,14 +6,22 @@ pub mod Generator
 pub mod Held
 pub mod Image
 pub mod Left
+pub mod Ledger
+pub mod Log
 pub mod Marks
+pub mod Names
+pub mod Numbered
+pub mod Parts
 pub mod Past
 pub mod Pieces
 pub mod Place
 pub mod Put
 pub mod Record
+pub mod Roll
+pub mod Room
 pub mod Sessions
 pub mod Shelves
 pub mod Slot
 pub mod Sound
+pub mod Steps
 pub mod Tied

@@ -1,5 +1,5 @@
 -- What the deeds of every row are like: which entries they record, which Results they send, and whose keys the sessions have.
-use Rattle.std.proofs.Common.{◌≡◌, ℕ, zero, suc, ◌+◌, ◌≤◌, Bool, true, false, cond, ◌&&◌, eqb, leb, List, [], ◌∷◌, ◌++◌, length, Option, Some, None, ◌⊎◌, inl, inr, refl, sym, ◌∙◌, ap, subst, min}
+use Rattle.std.proofs.Common.{◌≡◌, ℕ, zero, suc, ◌+◌, ◌≤◌, Bool, true, false, cond, ◌&&◌, eqb, ltb, leb, List, [], ◌∷◌, ◌++◌, length, Option, Some, None, ◌⊎◌, inl, inr, refl, sym, ◌∙◌, ap, subst, min}
 use Rattle.std.specs.Prelude.{◌||◌, not}
 use Rattle.std.specs.Str.{bytes_eq}
 use Rattle.std.proofs.lemmas.Bool.{cases_Bool, and_parts, cond-true, cond-false}
@@ -167,7 +167,7 @@ module _ (own : Option (List ℕ × ℕ)) (Says : Key → Outcomes → Type 0) w
 
   abort_ok : (journal : List Entry) (key : Option Key) → AllSent journal (trouble_for key)
   abort_ok journal None = tt
-  abort_ok journal (Some key) = (tt, tt)
+  abort_ok journal (Some key) = elim (ltb key.place 1024) as (λ b. AllSent journal (cond b (message.Abort key cause.Trouble ∷ []) [])) [ true ↦ (tt, tt) | false ↦ tt ]
 
   pub trouble_ok : (desk : Desk) (now : ℕ) (phase : Phase) → PhaseOk phase → AllFit desk.journal (trouble desk now phase)
   trouble_ok desk now phase ok = (ok, abort_ok desk.journal (key_under_way phase), close_ok desk now phase)

@@ -1,0 +1,15 @@
+pub mod Sound
+pub mod Starts
+pub mod Stages
+pub mod Keys
+pub mod Words
+pub mod Complete
+pub mod Walks
+pub mod Looser
+pub mod Good
+pub mod Viable
+pub mod Exact
+pub mod Texts
+pub mod Later
+pub mod Whole
+pub mod Examples

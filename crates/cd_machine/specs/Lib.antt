@@ -1,0 +1,5 @@
+pub mod State
+pub mod Machine
+pub mod Placed
+pub mod Reached
+pub mod Examples
