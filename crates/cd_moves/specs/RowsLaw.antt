@@ -93,7 +93,7 @@ part_on_time sid now (Begin key phase ∷ done) more node early fits = part_on_t
 part_on_time sid now (Go phase frames ∷ done) more node early fits = part_on_time sid now done more (did sid (Go phase frames) node) early (and_parts (list_all is_sendable frames) _ fits).1
 
 -- and one that has the earlier one behind it
-part_extends : (sid : ℕ) (done : List Deed) (node : Node) → (later : List Entry) × ((does sid done node).desk.journal ≡ later ++ node.desk.journal)
+pub part_extends : (sid : ℕ) (done : List Deed) (node : Node) → (later : List Entry) × ((does sid done node).desk.journal ≡ later ++ node.desk.journal)
 part_extends sid [] node = ([], refl)
 part_extends sid (Keep e ∷ done) node =
     let rest = part_extends sid done (did sid (Keep e) node) in
@@ -108,7 +108,7 @@ part_extends sid (Begin key phase ∷ done) node = part_extends sid done (did si
 part_extends sid (Go phase frames ∷ done) node = part_extends sid done (did sid (Go phase frames) node)
 
 -- the texts are read as before
-same_config : (sid : ℕ) (done : List Deed) (node : Node) → (does sid done node).desk.config ≡ node.desk.config
+pub same_config : (sid : ℕ) (done : List Deed) (node : Node) → (does sid done node).desk.config ≡ node.desk.config
 same_config sid [] node = refl
 same_config sid (Keep e ∷ done) node = same_config sid done (did sid (Keep e) node)
 same_config sid (Touch change ∷ done) node = same_config sid done (did sid (Touch change) node)
