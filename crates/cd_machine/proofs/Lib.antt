@@ -15,3 +15,4 @@ pub mod Whole
 pub mod Examples
 pub mod Printed
 pub mod Ranges
+pub mod Jumps

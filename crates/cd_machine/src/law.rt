@@ -25,6 +25,7 @@ ghost use Rattle.cd_grammar.specs.Tokens.{tokens_of};
 ghost use Rattle.cd_machine.specs.State.{State};
 ghost use Rattle.cd_machine.specs.Machine.{whole};
 ghost use Rattle.cd_machine.specs.Placed.{AreKeyed, Placed};
+ghost use Rattle.cd_machine.specs.Jumps.{LeadWell};
 ghost use Rattle.cd_machine.specs.Ranges.{is_card, are_stmts};
 ghost use Rattle.cd_machine.specs.Reached.{Reached};
 ghost use Rattle.cd_machine.specs.Examples.{examples, EachLeaves};
@@ -82,6 +83,11 @@ pub fn law_of_ranges()
     ensures name { (text : List ℕ) (process : Process) → InGrammar text process → process.card.name ≡ process.name }
     ensures statements { (text : List ℕ) (process : Process) → InGrammar text process → are_stmts process.stmts ≡ true }
     ensures count { (text : List ℕ) (process : Process) → InGrammar text process → length process.stmts ≤ 1024 }
+{}
+
+/// A condition of a Process names an action before it. A jump names a label that no statement up to it has, but one behind it.
+pub fn law_of_jumps()
+    ensures { (text : List ℕ) (process : Process) → InGrammar text process → LeadWell [] process.stmts }
 {}
 
 /// What is printed of a value is read as that value.
