@@ -16,3 +16,4 @@ pub mod Examples
 pub mod Printed
 pub mod Ranges
 pub mod Jumps
+pub mod Down
