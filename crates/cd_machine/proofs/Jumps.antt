@@ -1,7 +1,7 @@
 -- Conditions and jumps of a Process that has no fault.
 use Rattle.cd_ast.specs.declared.fault.FaultName.{FaultName}
 use Rattle.cd_ast.specs.declared.fault.FaultName.TheVariants.{NoLabel, Backward}
-use Rattle.std.proofs.Common.{◌≡◌, ℕ, List, [], ◌∷◌, ◌++◌, append_assoc, arith, Bool, true, false, not, ◌&&◌, ◌||◌, Option, Some, None, refl, ap, sym, subst, ◌∙◌}
+use Rattle.std.proofs.Common.{◌≡◌, ℕ, List, [], ◌∷◌, ◌++◌, append_assoc, arith, Bool, true, false, not, ◌||◌, Option, Some, None, refl, ap, sym, subst, ◌∙◌}
 use Rattle.std.specs.List.{list_any}
 use Rattle.std.specs.Option.{option_map}
 use Rattle.std.specs.Str.{bytes_eq}
@@ -14,7 +14,7 @@ use Rattle.cd_ast.specs.declared.process.What.TheVariants as what
 use Rattle.cd_grammar.specs.declared.mark.Mark.{Mark}
 use Rattle.cd_grammar.specs.declared.mark.Sketch.{Sketch}
 use Rattle.cd_grammar.specs.declared.mark.Sketch.TheVariants.{Copy, Action, If, Else, Eif, Goto, Exit}
-use Rattle.cd_grammar.specs.Later.{Found, fault_if, doubled, is_label, is_named, is_action, have_label, have_action, is_closed, is_inside, wrong_here, wrong_from}
+use Rattle.cd_grammar.specs.Later.{Found, fault_if, doubled, is_label, is_named, is_action, have_label, have_action, wrong_here, wrong_from}
 use Rattle.cd_machine.specs.Jumps.{is_labelled, is_acting, LeadsWell, LeadWell}
 
 -- a sketch of what a statement says

@@ -1,6 +1,5 @@
 -- What a text says is in range.
-use Rattle.std.proofs.Common.{◌≡◌, if◌then◌else◌, ℕ, suc, ◌+◌, ◌*◌, ◌%◌, ◌==◌, ◌<◌, ◌≤◌, nat_lt, nat_le, List, [], ◌∷◌, ◌++◌, length, length-append, take, drop, ◌-◌, ◌/◌, Bool, true, false, ◌&&◌, ◌||◌, is_some, Option, Some, None, Result, Ok, Err, refl, ap, sym, subst, ◌∙◌, arith}
-use Rattle.std.specs.List.{list_all}
+use Rattle.std.proofs.Common.{◌≡◌, if◌then◌else◌, ℕ, ◌+◌, ◌*◌, ◌%◌, ◌==◌, ◌<◌, ◌≤◌, nat_lt, nat_le, List, [], ◌∷◌, length, length-append, take, drop, ◌-◌, Bool, true, false, ◌&&◌, ◌||◌, Option, Some, None, Ok, refl, ap, sym, subst, ◌∙◌, arith}
 use Rattle.std.specs.Prelude.{slice_index, codes}
 use Rattle.std.specs.Str.{bytes_eq}
 use Rattle.cd_grammar.specs.Words.{is_word, said_in}
@@ -10,11 +9,8 @@ use Rattle.cd_types.specs.FileName.{is_file_name}
 use Rattle.cd_types.specs.Label.{is_label}
 use Rattle.cd_types.specs.NodeName.{is_node_name}
 use Rattle.cd_types.specs.Symbols.{upper_case}
-use Rattle.cd_types.specs.declared.choices.Retain.{Retain}
 use Rattle.cd_types.specs.declared.start.Day.{Day}
-use Rattle.cd_ast.specs.declared.fault.FaultName.{FaultName}
 use Rattle.cd_ast.specs.declared.process.What.{What}
-use Rattle.cd_ast.specs.declared.process.What.TheVariants as what
 use Rattle.cd_grammar.specs.declared.token.Key.{Key}
 use Rattle.cd_grammar.specs.declared.token.Token.{Token}
 use Rattle.cd_grammar.specs.declared.token.Token.TheVariants.{Word, Quoted, Mark}
@@ -31,10 +27,10 @@ use Rattle.cd_grammar.specs.declared.step.Step.{Step}
 use Rattle.cd_grammar.specs.declared.step.Work.{Work}
 use Rattle.cd_grammar.specs.declared.step.Step.TheVariants as step
 use Rattle.cd_grammar.specs.Answers.{Answer, Fits, Outside, Wrong, fits_as, ranged, wanted, strict, taken}
-use Rattle.cd_grammar.specs.Values.{label_in, front_label_in, number_in, is_digits, number_of, node_in, file_in, interval_in, units_in, unit_of, is_command, are_items, is_own}
+use Rattle.cd_grammar.specs.Values.{label_in, number_in, is_digits, number_of, node_in, file_in, interval_in, units_in, unit_of, is_command, are_items, is_own}
 use Rattle.cd_grammar.specs.Starts.{half_in, plain_time, half_time, named_time, time_in, time_by, time_with, half_or_wrong, clock_in}
 use Rattle.cd_grammar.specs.Given.{nothing, with_word, with_quoted, with_value, with_list, shared}
-use Rattle.cd_grammar.specs.Reading.{Reading, stored, copied, copied_between, run, submitted, ended, given_of, with_given, bare_copy, with_end, with_name, has_room, named}
+use Rattle.cd_grammar.specs.Reading.{Reading, stored, copied, copied_between, run, submitted, ended, given_of, with_given, with_end, with_name, has_room}
 use Rattle.cd_grammar.specs.Grammar.{Place, Start, Rest, started, begun_at, opening, before_it}
 use Rattle.cd_grammar.specs.Grammar as g
 use Rattle.cd_ast.specs.declared.process.Process.{Process}
@@ -43,7 +39,7 @@ use Rattle.cd_grammar.specs.Faults.{process_of, InGrammar}
 use Rattle.cd_machine.specs.Ranges.{passes, within, is_timed, is_interval, is_card, is_what, is_stmt, are_stmts}
 use Rattle.cd_machine.specs.Jumps.{LeadWell}
 use Rattle.cd_machine.proofs.Keys.{front_is_label}
-use Rattle.cd_machine.proofs.Jumps.{IsSketch, IsMark, AreMarks, marks_more, none_right, leads}
+use Rattle.cd_machine.proofs.Jumps.{IsSketch, AreMarks, marks_more, none_right, leads}
 use Rattle.cd_grammar.specs.Later.{late_faults, wrong_start}
 
 fits_at : {A : Type 0} {x y : A} → x ≡ y → Fits x ≡ Fits y

@@ -1,5 +1,5 @@
 -- Where conditions and jumps of a Process lead.
-use Rattle.std.specs.Prelude.{◌≡◌, ℕ, List, [], ◌∷◌, ◌++◌, Bool, true, false, ◌&&◌, Option}
+use Rattle.std.specs.Prelude.{◌≡◌, ℕ, List, [], ◌∷◌, ◌++◌, Bool, true, false, ◌&&◌}
 use Rattle.std.specs.List.{list_any}
 use Rattle.cd_ast.specs.Walk.{is_action, has_label}
 use Rattle.cd_ast.specs.declared.process.Stmt.{Stmt}
