@@ -15,3 +15,5 @@ pub mod Whole
 pub mod Examples
 pub mod Printed
 pub mod Ranges
+pub mod Jumps
+pub mod Down

@@ -1,6 +1,6 @@
 -- What is printed of a value is read as that value.
-use Rattle.std.proofs.Common.{◌≡◌, ℕ, zero, suc, ◌+◌, ◌-◌, ◌*◌, ◌/◌, ◌%◌, ◌<◌, ◌≤◌, ◌^◌, nat_lt, nat_le, Bool, true, false, ◌&&◌, ◌||◌, List, [], ◌∷◌, ◌++◌, length, length-append, take, get_or, Option, Some, None, refl, ap, sym, subst, ◌∙◌, arith}
-use Rattle.std.specs.Prelude.{if◌then◌else◌, ◌==◌, codes, slice_index, nat_eq}
+use Rattle.std.proofs.Common.{◌≡◌, ℕ, zero, suc, ◌+◌, ◌-◌, ◌*◌, ◌/◌, ◌%◌, ◌<◌, ◌≤◌, ◌^◌, nat_lt, nat_le, Bool, true, false, ◌&&◌, List, [], ◌∷◌, ◌++◌, length, length-append, take, Some, None, refl, ap, ◌∙◌, arith}
+use Rattle.std.specs.Prelude.{◌==◌, codes, slice_index, nat_eq}
 use Rattle.std.specs.Char.{is_ascii_digit}
 use Rattle.std.specs.Fmt.{decimal}
 use Rattle.std.specs.List.{list_all, fold}
@@ -19,17 +19,16 @@ use Rattle.cd_types.specs.declared.choices.Relation.{Relation}
 use Rattle.cd_types.specs.declared.choices.Relation.TheVariants as relation
 use Rattle.cd_types.specs.declared.choices.Side.{Side}
 use Rattle.cd_types.specs.declared.choices.Side.TheVariants as side
-use Rattle.cd_types.specs.declared.start.Day.{Day}
 use Rattle.cd_types.specs.declared.start.Day.TheVariants as day
 use Rattle.cd_ast.specs.Canonical.{digit_of, two_digits, four_digits, weekday, hold_word, retain_word, disp_word, relation_sign, side_word}
 use Rattle.cd_grammar.specs.declared.token.Token.TheVariants.{Mark}
 use Rattle.cd_grammar.specs.declared.step.Clock.{Clock}
-use Rattle.cd_grammar.specs.Answers.{Answer, Fits, Wrong, ranged}
+use Rattle.cd_grammar.specs.Answers.{Answer, Fits}
 use Rattle.cd_grammar.specs.Grammar.{relation_of}
 use Rattle.cd_grammar.specs.Given.{side_of}
-use Rattle.cd_grammar.specs.Starts.{are_two, two, clock_in, long_clock, minutes_in, clock_if, plain_time, day_in, date_in, named_days}
+use Rattle.cd_grammar.specs.Starts.{are_two, two, clock_in, long_clock, minutes_in, plain_time, day_in, date_in, named_days}
 use Rattle.cd_grammar.specs.Values.{is_digits, number_of, number_in, interval_in, units_in, unit_of, hold_in, retain_in, disp_in}
-use Rattle.cd_grammar.specs.Words.{is_word, said_in, key_of, sign_of, or_else}
+use Rattle.cd_grammar.specs.Words.{is_word, said_in, key_of, sign_of}
 
 -- the choices
 pub hold_read : (h : Hold) → hold_in (hold_word h) ≡ Some h

@@ -1,6 +1,5 @@
 -- What a text says is in range.
-use Rattle.std.proofs.Common.{◌≡◌, if◌then◌else◌, ℕ, suc, ◌+◌, ◌*◌, ◌%◌, ◌==◌, ◌<◌, ◌≤◌, nat_lt, nat_le, List, [], ◌∷◌, ◌++◌, length, length-append, take, drop, ◌-◌, ◌/◌, Bool, true, false, ◌&&◌, ◌||◌, is_some, Option, Some, None, Result, Ok, Err, refl, ap, sym, subst, ◌∙◌, arith}
-use Rattle.std.specs.List.{list_all}
+use Rattle.std.proofs.Common.{◌≡◌, if◌then◌else◌, ℕ, ◌+◌, ◌*◌, ◌%◌, ◌==◌, ◌<◌, ◌≤◌, nat_lt, nat_le, List, [], ◌∷◌, length, length-append, take, drop, ◌-◌, Bool, true, false, ◌&&◌, ◌||◌, Option, Some, None, Ok, refl, ap, sym, subst, ◌∙◌, arith}
 use Rattle.std.specs.Prelude.{slice_index, codes}
 use Rattle.std.specs.Str.{bytes_eq}
 use Rattle.cd_grammar.specs.Words.{is_word, said_in}
@@ -10,11 +9,8 @@ use Rattle.cd_types.specs.FileName.{is_file_name}
 use Rattle.cd_types.specs.Label.{is_label}
 use Rattle.cd_types.specs.NodeName.{is_node_name}
 use Rattle.cd_types.specs.Symbols.{upper_case}
-use Rattle.cd_types.specs.declared.choices.Retain.{Retain}
 use Rattle.cd_types.specs.declared.start.Day.{Day}
-use Rattle.cd_ast.specs.declared.fault.FaultName.{FaultName}
 use Rattle.cd_ast.specs.declared.process.What.{What}
-use Rattle.cd_ast.specs.declared.process.What.TheVariants as what
 use Rattle.cd_grammar.specs.declared.token.Key.{Key}
 use Rattle.cd_grammar.specs.declared.token.Token.{Token}
 use Rattle.cd_grammar.specs.declared.token.Token.TheVariants.{Word, Quoted, Mark}
@@ -31,17 +27,20 @@ use Rattle.cd_grammar.specs.declared.step.Step.{Step}
 use Rattle.cd_grammar.specs.declared.step.Work.{Work}
 use Rattle.cd_grammar.specs.declared.step.Step.TheVariants as step
 use Rattle.cd_grammar.specs.Answers.{Answer, Fits, Outside, Wrong, fits_as, ranged, wanted, strict, taken}
-use Rattle.cd_grammar.specs.Values.{label_in, front_label_in, number_in, is_digits, number_of, node_in, file_in, interval_in, units_in, unit_of, is_command, are_items, is_own}
+use Rattle.cd_grammar.specs.Values.{label_in, number_in, is_digits, number_of, node_in, file_in, interval_in, units_in, unit_of, is_command, are_items, is_own}
 use Rattle.cd_grammar.specs.Starts.{half_in, plain_time, half_time, named_time, time_in, time_by, time_with, half_or_wrong, clock_in}
 use Rattle.cd_grammar.specs.Given.{nothing, with_word, with_quoted, with_value, with_list, shared}
-use Rattle.cd_grammar.specs.Reading.{Reading, stored, copied, copied_between, run, submitted, ended, given_of, with_given, bare_copy, with_end, with_name, has_room, named}
+use Rattle.cd_grammar.specs.Reading.{Reading, stored, copied, copied_between, run, submitted, ended, given_of, with_given, with_end, with_name, has_room}
 use Rattle.cd_grammar.specs.Grammar.{Place, Start, Rest, started, begun_at, opening, before_it}
 use Rattle.cd_grammar.specs.Grammar as g
 use Rattle.cd_ast.specs.declared.process.Process.{Process}
 use Rattle.cd_grammar.specs.Reading.{or_default}
 use Rattle.cd_grammar.specs.Faults.{process_of, InGrammar}
 use Rattle.cd_machine.specs.Ranges.{passes, within, is_timed, is_interval, is_card, is_what, is_stmt, are_stmts}
+use Rattle.cd_machine.specs.Jumps.{LeadWell}
 use Rattle.cd_machine.proofs.Keys.{front_is_label}
+use Rattle.cd_machine.proofs.Jumps.{IsSketch, AreMarks, marks_more, none_right, leads}
+use Rattle.cd_grammar.specs.Later.{late_faults, wrong_start}
 
 fits_at : {A : Type 0} {x y : A} → x ≡ y → Fits x ≡ Fits y
 fits_at {A} e = ap (λ (z : A). Fits z) e
@@ -283,6 +282,7 @@ pub record FitReading (r : Reading) : Type 0 where
   pub head : FitGiven r.head
   pub stmts : are_stmts r.stmts ≡ true
   pub count : length r.stmts ≤ 1024
+  pub marks : AreMarks r.marks r.stmts
 
 abbrev pub FitEnd : Option Given → Type 0
 FitEnd None = Unit {0}
@@ -324,14 +324,15 @@ with_fit r (step.RunGroup begun w given) later h e = (h.0, e)
 with_fit r (step.Submit begun given) later h e = (h.0, e)
 
 -- with a statement
-stored_fit : (r : Reading) (begun : Begun) (sketched : Sketch) (said : What) → FitReading r → FitBegun r begun → is_what said ≡ true → FitReading (stored r begun sketched said)
-stored_fit r begun sketched said h b e =
+stored_fit : (r : Reading) (begun : Begun) (sketched : Sketch) (said : What) → IsSketch sketched said → FitReading r → FitBegun r begun → is_what said ≡ true → FitReading (stored r begun sketched said)
+stored_fit r begun sketched said like h b e =
     let room : length r.stmts < 1024 = b.room in
     record {
       name = h.name;
       head = h.head;
       stmts = list_all-append is_stmt r.stmts (record { label = option_map (λ found. found.1) begun.label; what = said } ∷ []) ∙ rw h.stmts (rw b.label (rw e refl));
       count = simp length-append (omega arith);
+      marks = marks_more r.marks r.stmts (record { label = begun.label; at = begun.at; what = sketched }) (record { label = option_map (λ found. found.1) begun.label; what = said }) h.marks (record { label = refl; said = like });
     }
 
 same_reading : (a b : Reading) → Some a ≡ Some b → a ≡ b
@@ -340,7 +341,7 @@ same_reading a b e = cc
 copied_fit : (r : Reading) (begun : Begun) (from to : Given) (ckpt : Option ℕ) (a b : Option (List ℕ)) (before : Reading) → FitReading r → FitBegun r begun → passes is_file_name a ≡ true → passes is_file_name b ≡ true
     → passes is_interval ckpt ≡ true → copied r begun from to ckpt a b ≡ Some before → FitReading before
 copied_fit r begun from to ckpt (Some a) (Some b) before h fb ha hb hc e =
-    subst (λ (x : Reading). FitReading x) (same_reading _ before e) (stored_fit r begun _ _ h fb (rw ha (rw hb hc)))
+    subst (λ (x : Reading). FitReading x) (same_reading _ before e) (stored_fit r begun _ _ tt h fb (rw ha (rw hb hc)))
 copied_fit r begun from to ckpt None b before h fb ha hb hc e = absurd cc
 copied_fit r begun from to ckpt (Some a) None before h fb ha hb hc e = absurd cc
 
@@ -351,17 +352,17 @@ between_fit r begun ckpt None b before h fb ha hb hc e = absurd cc
 between_fit r begun ckpt (Some from) None before h fb ha hb hc e = absurd cc
 
 run_fit : (r : Reading) (begun : Begun) (w : Work) (given : Given) (o : Option (List ℕ)) (before : Reading) → FitReading r → FitBegun r begun → passes is_command o ≡ true → run r begun w given o ≡ Some before → FitReading before
-run_fit r begun w given (Some command) before h fb hc e = subst (λ (x : Reading). FitReading x) (same_reading _ before e) (stored_fit r begun _ _ h fb hc)
+run_fit r begun w given (Some command) before h fb hc e = subst (λ (x : Reading). FitReading x) (same_reading _ before e) (stored_fit r begun _ _ tt h fb hc)
 run_fit r begun w given None before h fb hc e = absurd cc
 
 submitted_fit : (r : Reading) (begun : Begun) (given : Given) (o : Option (List ℕ)) (before : Reading) → FitReading r → FitBegun r begun → FitGiven given → passes is_file_name o ≡ true → submitted r begun given o ≡ Some before
     → FitReading before
-submitted_fit r begun given (Some file) before h fb hg hf e = subst (λ (x : Reading). FitReading x) (same_reading _ before e) (stored_fit r begun _ _ h fb (rw hf (rw hg.0 hg.1)))
+submitted_fit r begun given (Some file) before h fb hg hf e = subst (λ (x : Reading). FitReading x) (same_reading _ before e) (stored_fit r begun _ _ tt h fb (rw hf (rw hg.0 hg.1)))
 submitted_fit r begun given None before h fb hg hf e = absurd cc
 
 ended_fit : (r before : Reading) (s : Step) → FitReading r → FitStep r s → ended r s ≡ Some before → FitReading before
 unfolding ended
-ended_fit r before (step.Head given) h f e = subst (λ (x : Reading). FitReading x) (same_reading _ before e) (record { name = h.name; head = f; stmts = h.stmts; count = h.count })
+ended_fit r before (step.Head given) h f e = subst (λ (x : Reading). FitReading x) (same_reading _ before e) (record { name = h.name; head = f; stmts = h.stmts; count = h.count; marks = h.marks })
 ended_fit r before step.Between h f e = subst (λ (x : Reading). FitReading x) (same_reading _ before e) h
 ended_fit r before (step.Copy begun copy) h f e = between_fit r begun copy.others.ckpt copy.from copy.to before h f.0 f.1.0 f.1.1 f.1.2.6 e
 ended_fit r before (step.Group begun copy end given) h f e = absurd cc
@@ -421,7 +422,7 @@ end_fit copy ends.From given h e = (e, h.1, h.2)
 end_fit copy ends.To given h e = (h.0, e, h.2)
 
 symbols_fit : (r : Reading) (s : Step) (name text : List ℕ) → FitReading r → FitStep r s → FitReading (with_name r s name text) × FitStep (with_name r s name text) s
-symbols_fit r (step.Submit begun given) name text h f = (record { name = h.name; head = h.head; stmts = h.stmts; count = h.count }, (record { label = f.0.label; room = f.0.room }, f.1))
+symbols_fit r (step.Submit begun given) name text h f = (record { name = h.name; head = h.head; stmts = h.stmts; count = h.count; marks = h.marks }, (record { label = f.0.label; room = f.0.room }, f.1))
 symbols_fit r (step.Head given) name text h f = (h, f)
 symbols_fit r step.Between name text h f = (h, f)
 symbols_fit r (step.Copy begun copy) name text h f = (h, f)
@@ -430,7 +431,7 @@ symbols_fit r (step.Run begun w given) name text h f = (h, f)
 symbols_fit r (step.RunGroup begun w given) name text h f = (h, f)
 
 ifs_fit : (r : Reading) (ifs : List Bool) → FitReading r → FitReading (record r { ifs = ifs })
-ifs_fit r ifs h = record { name = h.name; head = h.head; stmts = h.stmts; count = h.count }
+ifs_fit r ifs h = record { name = h.name; head = h.head; stmts = h.stmts; count = h.count; marks = h.marks }
 
 number_of_if : (word : List ℕ) (n : ℕ) → taken true (number_in 0 255 word) ≡ Ok n → nat_le n 255 ≡ true
 number_of_if word n e =
@@ -444,7 +445,7 @@ number_of_if word n e =
 
 pub all_fit : {p : Place} {ts : List Token} {all : Reading} → Rest strict p ts all → FitPlace p → FitReading all
 all_fit (g.process {k = k} {word = word} {name = name} e rest) h =
-    all_fit rest (record { name = label_fit k word name e; head = nothing_fit; stmts = refl; count = omega arith }, nothing_fit)
+    all_fit rest (record { name = label_fit k word name e; head = nothing_fit; stmts = refl; count = omega arith; marks = tt }, nothing_fit)
 all_fit (g.param {r = r} {step = s} {at = at} {set = set} {value = value} {next = later} e unused fits rest) h =
     all_fit rest (h.0, with_fit r s later h.1 (value_fit (given_of s) set at value later (given_fit r s h.1) fits))
 all_fit (g.in_parentheses {r = r} {step = s} {at = at} {set = set} {value = value} {next = later} e unused parens fits rest) h =
@@ -484,19 +485,19 @@ all_fit (g.submit {p = p} {before = before} {named = label} {at = at} e room res
     let b : Begins before label = begins p label before h e in all_fit rest (b.reading, (begun_fit before label at b room, nothing_fit))
 all_fit (g.if_then {p = p} {before = before} {named = label} {at = at} {n = n} {k3 = k3} {word3 = word3} {word5 = word5} {name = name} e room deep e3 related fits rest) h =
     let b : Begins before label = begins p label before h e in
-    all_fit rest (ifs_fit _ _ (stored_fit before (begun_at label at) _ _ b.reading (begun_fit before label at b room) (rw (label_fit k3 word3 name e3) (number_of_if word5 n fits))), tt)
+    all_fit rest (ifs_fit _ _ (stored_fit before (begun_at label at) _ _ refl b.reading (begun_fit before label at b room) (rw (label_fit k3 word3 name e3) (number_of_if word5 n fits))), tt)
 all_fit (g.else_part {r = r} {before = before} {step = s} {at = at} e room opened2 rest) h =
     let read : FitReading before = ended_fit r before s h.0 h.1 e in
-    all_fit rest (ifs_fit _ _ (stored_fit before (begun_at None at) _ _ read (record { label = refl; room = room_fit before room }) refl), tt)
+    all_fit rest (ifs_fit _ _ (stored_fit before (begun_at None at) _ _ tt read (record { label = refl; room = room_fit before room }) refl), tt)
 all_fit (g.eif {r = r} {before = before} {step = s} {at = at} e room opened2 rest) h =
     let read : FitReading before = ended_fit r before s h.0 h.1 e in
-    all_fit rest (ifs_fit _ _ (stored_fit before (begun_at None at) _ _ read (record { label = refl; room = room_fit before room }) refl), tt)
+    all_fit rest (ifs_fit _ _ (stored_fit before (begun_at None at) _ _ tt read (record { label = refl; room = room_fit before room }) refl), tt)
 all_fit (g.goto {p = p} {before = before} {named = label} {at = at} {k2 = k2} {word2 = word2} {name = name} e room e2 rest) h =
     let b : Begins before label = begins p label before h e in
-    all_fit rest (stored_fit before (begun_at label at) _ _ b.reading (begun_fit before label at b room) (label_fit k2 word2 name e2), tt)
+    all_fit rest (stored_fit before (begun_at label at) _ _ refl b.reading (begun_fit before label at b room) (label_fit k2 word2 name e2), tt)
 all_fit (g.exit {p = p} {before = before} {named = label} {at = at} e room rest) h =
     let b : Begins before label = begins p label before h e in
-    all_fit rest (stored_fit before (begun_at label at) _ _ b.reading (begun_fit before label at b room) refl, tt)
+    all_fit rest (stored_fit before (begun_at label at) _ _ tt b.reading (begun_fit before label at b room) refl, tt)
 all_fit (g.pend {r = r} {all = all} {step = s} e) h = ended_fit r all s h.0 h.1 e
 all_fit (g.pend_semicolon {r = r} {all = all} {step = s} e) h = ended_fit r all s h.0 h.1 e
 
@@ -537,3 +538,11 @@ text_stmts text process said = let fit : (all : Reading) × FitReading all × (p
 pub text_count : (text : List ℕ) (process : Process) → InGrammar text process → length process.stmts ≤ 1024
 text_count text process said = let fit : (all : Reading) × FitReading all × (process ≡ process_of all) = read_fit text process said in
     subst (λ (x : Process). length x.stmts ≤ 1024) (sym fit.2) fit.1.count
+
+-- conditions and jumps
+reading_leads : (r : Reading) → FitReading r → late_faults r ≡ [] → LeadWell [] r.stmts
+unfolding late_faults
+reading_leads r h e = leads [] r.marks [] r.stmts tt h.marks (none_right (wrong_start r.head.retain r.head.start r.head.retain_at) _ e)
+
+pub text_leads : (text : List ℕ) (process : Process) → InGrammar text process → LeadWell [] process.stmts
+text_leads text process said = subst (λ (x : Process). LeadWell [] x.stmts) (sym said.said) (reading_leads said.all (all_fit said.read tt) said.sound)

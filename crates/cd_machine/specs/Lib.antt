@@ -4,3 +4,4 @@ pub mod Placed
 pub mod Reached
 pub mod Examples
 pub mod Ranges
+pub mod Jumps

@@ -1,5 +1,5 @@
 -- What the values of a Process may be.
-use Rattle.std.specs.Prelude.{ℕ, ◌%◌, List, length, Bool, true, false, ◌&&◌, ◌==◌, nat_le, nat_lt, Option, Some, None}
+use Rattle.std.specs.Prelude.{ℕ, ◌%◌, List, Bool, true, ◌&&◌, ◌==◌, nat_le, nat_lt, Option, Some, None}
 use Rattle.std.specs.List.{list_all}
 use Rattle.cd_types.specs.FileName.{is_file_name}
 use Rattle.cd_types.specs.Label.{is_label}

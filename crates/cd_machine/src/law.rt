@@ -1,5 +1,5 @@
 //! What the machine has to do with the grammar, and what the grammar says of texts.
-ghost use Rattle.std.specs.Prelude.{◌≡◌, ℕ, ◌*◌, ◌/◌, ◌%◌, ◌<◌, ◌≤◌, ◌⊎◌, List, ◌++◌, codes, length, Some, [], Ok, Err, true};
+ghost use Rattle.std.specs.Prelude.{◌≡◌, ℕ, ◌*◌, ◌/◌, ◌%◌, ◌<◌, ◌≤◌, ◌⊎◌, List, ◌∷◌, ◌++◌, codes, length, Some, [], Ok, Err, true, false};
 ghost use Rattle.std.specs.Fmt.{decimal};
 ghost use Rattle.cd_types.specs.declared.choices.Disp.{Disp};
 ghost use Rattle.cd_types.specs.declared.choices.Hold.{Hold};
@@ -18,13 +18,17 @@ ghost use Rattle.cd_grammar.specs.Values.{number_in, interval_in, hold_in, retai
 ghost use Rattle.cd_grammar.specs.Words.{key_of, sign_of};
 ghost use Rattle.cd_grammar.specs.Answers.{Strictness, strict, Fits};
 ghost use Rattle.cd_grammar.specs.Reading.{Reading};
+ghost use Rattle.cd_ast.specs.Walk.{action_of, is_action, go};
 ghost use Rattle.cd_ast.specs.declared.process.Process.{Process};
+ghost use Rattle.cd_ast.specs.declared.process.Stmt.{Stmt};
+ghost use Rattle.cd_ast.specs.declared.process.What.TheVariants as what;
 ghost use Rattle.cd_grammar.specs.Later.{Found, late_faults, IsFirstOf};
 ghost use Rattle.cd_grammar.specs.Faults.{IsRead, CanGoOn, Leaves, InGrammar, IsFault, Says, IsFaultOf};
 ghost use Rattle.cd_grammar.specs.Tokens.{tokens_of};
 ghost use Rattle.cd_machine.specs.State.{State};
 ghost use Rattle.cd_machine.specs.Machine.{whole};
 ghost use Rattle.cd_machine.specs.Placed.{AreKeyed, Placed};
+ghost use Rattle.cd_machine.specs.Jumps.{LeadWell};
 ghost use Rattle.cd_machine.specs.Ranges.{is_card, are_stmts};
 ghost use Rattle.cd_machine.specs.Reached.{Reached};
 ghost use Rattle.cd_machine.specs.Examples.{examples, EachLeaves};
@@ -82,6 +86,18 @@ pub fn law_of_ranges()
     ensures name { (text : List ℕ) (process : Process) → InGrammar text process → process.card.name ≡ process.name }
     ensures statements { (text : List ℕ) (process : Process) → InGrammar text process → are_stmts process.stmts ≡ true }
     ensures count { (text : List ℕ) (process : Process) → InGrammar text process → length process.stmts ≤ 1024 }
+{}
+
+/// A condition of a Process names an action before it. A jump names a label that no statement up to it has, but one behind it.
+/// So the condition's action stands before its IF, and whatever isn't an action goes further down.
+pub fn law_of_jumps()
+    ensures well { (text : List ℕ) (process : Process) → InGrammar text process → LeadWell [] process.stmts }
+    ensures back { (text : List ℕ) (process : Process) → InGrammar text process
+        → (front : List Stmt) (s : Stmt) (more : List Stmt) (label : List ℕ) (rel : Relation) (n : ℕ) → process.stmts ≡ front ++ s ∷ more → s.what ≡ what.If label rel n
+        → (place : ℕ) × (action_of process.stmts label ≡ Some place) × (place < length front) }
+    ensures down { (text : List ℕ) (process : Process) → InGrammar text process
+        → (codes : List (ℕ × ℕ)) (front : List Stmt) (s : Stmt) (more : List Stmt) → process.stmts ≡ front ++ s ∷ more → is_action s.what ≡ false
+        → (length front < go process.stmts codes (length front) s.what) × (go process.stmts codes (length front) s.what ≤ length process.stmts) }
 {}
 
 /// What is printed of a value is read as that value.
