@@ -1,0 +1,15 @@
+//! Parts of rows: what both sides of a session do about a happening.
+#![tactic(auto)]
+
+mod copies;
+mod part;
+mod same;
+mod sending;
+
+pub use copies::{copy_announced, copy_name, copy_source, resized};
+pub use part::{behind, go, later, only, only_one, quietly};
+pub use same::{same_bytes, same_disp, same_key};
+pub use sending::{
+    GREATEST_FILE, copy, ended, finish, interval_of, piece_len, piece_read, push, send_from,
+    settled,
+};
