@@ -1,0 +1,18 @@
+use Rattle.std.proofs.Common.{refl, List}
+use Rattle.cd_status.specs.Processes.{ended}
+use Rattle.cd_ast.specs.Walk.{code_at}
+use Rattle.cd_entries.specs.declared.entry.Entry.{Entry}
+use Rattle.cd_book.proofs.Newest.{one_more, all_of}
+use Rattle.cd_book.proofs.ended.code_at.Goals as goal
+
+pub loop-entry-init : goal.loop-entry-init
+unfolding ended code_at
+loop-entry-init c = refl
+
+pub loop-entry-preserved : goal.loop-entry-preserved
+loop-entry-preserved c =
+    one_more (λ (journal : List Entry). code_at (ended journal c.args.number) c.args.place) c.args.entries.now c.loop-entry.entry-index c.entry-item.result c.code_after-found.result c.loop-entry-test.true c.entry-item.is
+    (c.code_after-found.ensures _ c.loop-entry.invariant)
+
+pub returns : goal.returns
+returns c = all_of (λ (journal : List Entry). code_at (ended journal c.args.number) c.args.place) c.args.entries.now c.loop-entry.entry-index c.loop-entry.found c.loop-entry-test.false c.loop-entry.invariant

@@ -1,0 +1,18 @@
+use Rattle.std.proofs.Common.{refl, List}
+use Rattle.cd_status.specs.Processes.{submission}
+use Rattle.cd_book.specs.Seen.{told_in}
+use Rattle.cd_entries.specs.declared.entry.Entry.{Entry}
+use Rattle.cd_book.proofs.Newest.{one_more, all_of}
+use Rattle.cd_book.proofs.process.submitting.Goals as goal
+
+pub loop-entry-init : goal.loop-entry-init
+unfolding submission
+loop-entry-init c = refl
+
+pub loop-entry-preserved : goal.loop-entry-preserved
+loop-entry-preserved c =
+    one_more (λ (journal : List Entry). submission journal c.args.number) c.args.entries.now c.loop-entry.entry-index c.entry-item.result (told_in c.submission_after-found.result) c.loop-entry-test.true c.entry-item.is
+    (c.submission_after-found.ensures _ c.loop-entry.invariant)
+
+pub returns : goal.returns
+returns c = all_of (λ (journal : List Entry). submission journal c.args.number) c.args.entries.now c.loop-entry.entry-index (told_in c.loop-entry.found) c.loop-entry-test.false c.loop-entry.invariant

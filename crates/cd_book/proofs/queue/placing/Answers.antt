@@ -1,0 +1,17 @@
+use Rattle.std.proofs.Common.{refl, List}
+use Rattle.cd_status.specs.Queue.{placing}
+use Rattle.cd_entries.specs.declared.entry.Entry.{Entry}
+use Rattle.cd_book.proofs.Newest.{one_more, all_of}
+use Rattle.cd_book.proofs.queue.placing.Goals as goal
+
+pub loop-entry-init : goal.loop-entry-init
+unfolding placing
+loop-entry-init c = refl
+
+pub loop-entry-preserved : goal.loop-entry-preserved
+loop-entry-preserved c =
+    one_more (λ (journal : List Entry). placing journal c.args.number) c.args.entries.now c.loop-entry.entry-index c.entry-item.result c.placing_after-found.result c.loop-entry-test.true c.entry-item.is
+    (c.placing_after-found.ensures _ c.loop-entry.invariant)
+
+pub returns : goal.returns
+returns c = all_of (λ (journal : List Entry). placing journal c.args.number) c.args.entries.now c.loop-entry.entry-index c.loop-entry.found c.loop-entry-test.false c.loop-entry.invariant
