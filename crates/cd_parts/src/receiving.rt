@@ -1,6 +1,5 @@
 //! Receiving a file.
 ghost use Rattle.std.specs.Prelude.{◌≡◌, ◌+◌, ◌%◌, ◌≤◌, ◌++◌, ◌==◌, ◌&&◌, ◌||◌, not, length, nat_le, IfOk};
-
 ghost use Rattle.cd_entries.specs.declared.entry.Entry.TheVariants as entry;
 ghost use Rattle.cd_legal.specs.Legal.{greatest_file};
 ghost use Rattle.cd_outside.specs.Shelf.{SyncFile};
@@ -371,5 +370,8 @@ pub fn land<'a>(
 pub fn gives_up(why: Cause) -> bool
     ensures { result ≡ gives_up why }
 {
-    matches!(why, Cause::NoSource | Cause::SourceChanged | Cause::TooLarge)
+    matches!(
+        why,
+        Cause::NoSource | Cause::SourceChanged | Cause::TooLarge
+    )
 }
