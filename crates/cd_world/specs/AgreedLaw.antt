@@ -31,7 +31,7 @@ use Rattle.cd_moves.specs.declared.session.Phase.{Phase}
 use Rattle.cd_moves.specs.Node.{Config, Desk, Sessions, Node, Deed, Keep, Touch, AskSize, AskBytes, Begin, Go, Answers, did, does, recorded}
 use Rattle.cd_moves.specs.Rows.{row_choose, row_trouble}
 use Rattle.cd_moves.specs.RowsLaw.{same_config, part_extends}
-use Rattle.cd_world.specs.World.{At, A, B, across, Note, Sized, Read, Began, Landed, Half, World, seen_from, landing_of, noted_by, read_for, is_gone, at_session, behind_them, world_did, world_does, Happening, Choice, Call, Frame, End, Task, nothing, opens, with_session, called, answers_now, came, ended, task_of, task, world_after, world_within, deeds_left, Cut, cut_off, with_shelf, world_faulted, down, world_stopped, marked, world_started, world_lost, world_written, submission_of, world_submitted, Event, Does, Fails, Stops, Starts, Loses, Writes, Later, Submits, later, happens, after, IsNew, IsFirst, ArePossible}
+use Rattle.cd_world.specs.World.{At, A, B, across, Note, Sized, Read, Began, Landed, Half, World, seen_from, landing_of, noted_by, read_for, is_gone, at_session, behind_them, world_did, world_does, Happening, Choice, Call, Frame, End, Task, nothing, opens, with_session, called, answers_now, came, ended, task_of, task, world_after, world_within, deeds_left, Cut, cut_off, with_shelf, world_faulted, down, world_stopped, no_sessions, marked, world_started, world_lost, world_written, submission_of, world_submitted, Event, Does, Fails, Stops, Starts, Loses, Writes, Later, Submits, later, happens, after, IsNew, IsFirst, ArePossible}
 use Rattle.cd_world.specs.Holds.{journal_of, IsOutcome, IsOwnStep, EachEnded, EndsAsKept, HaveResults, is_at, landings, IsOne, keeper, LandsOnce, HaveLanded}
 use Rattle.cd_world.specs.DeedsLaw.{OwnKey, PhaseOk, EndedBy, KeepOk, SentOk, AllSent, AllFit, HeardOk, row_ok, choose_ok, close_ok, trouble_ok}
 use Rattle.cd_world.specs.GrownLaw.{does_node, BothGrown, BothSound, within_grown, whole_grown, trouble_grown, legal_more, happens_grown, after_grown, first_sound}
@@ -182,11 +182,11 @@ module _ (own : Option (List ℕ × ℕ)) (Says : Key → Outcomes → Type 0) w
 
 -- Landings.
 
-at_self : (x : At) → is_at x x ≡ true
+pub at_self : (x : At) → is_at x x ≡ true
 at_self A = refl
 at_self B = refl
 
-not_across : (x : At) → is_at (across x) x ≡ false
+pub not_across : (x : At) → is_at (across x) x ≡ false
 not_across A = refl
 not_across B = refl
 
@@ -368,7 +368,7 @@ noted x own a b notes notes2 same h = record {
   landed = λ key. subst (λ (landed : List (List ℕ)). LandOk (status.status (journal_of a) key) landed) (sym (same key)) (h.landed key);
 }
 
-either_at : {T : Type 0} (P : T → Type 0) (sid : ℕ) (value : T) (others : ℕ → T) → P value → ((n : ℕ) → P (others n)) → (n : ℕ) → P (at_session sid value others n)
+pub either_at : {T : Type 0} (P : T → Type 0) (sid : ℕ) (value : T) (others : ℕ → T) → P value → ((n : ℕ) → P (others n)) → (n : ℕ) → P (at_session sid value others n)
 either_at P sid value others one rest n = elim (eqb sid n) as (λ b. P (cond b value (others n))) [ true ↦ one | false ↦ rest n ]
 
 all_sent_append : (own : Own) (Says : Key → Outcomes → Type 0) (journal : List Entry) (first second : List Message) → AllSent own Says journal first → AllSent own Says journal second → AllSent own Says journal (first ++ second)
@@ -646,9 +646,12 @@ module _ (x : At) (own_a own_b : Own) (w : World) (h : BothAgreed x own_a own_b 
     b = beside (across x) own_b w.b w.a a2 w.notes (subst (λ (d : Desk). (key : Key) (o : Outcomes) → Of w.a key o → outcome d.journal key ≡ Some o) (sym same) (λ key o is. is)) h.b;
   }
 
-  started_agreed : (b : Bool) → BothAgreed x own_a own_b (cond b w (record w { a = record w.a { up = true; received = marked w.a.node.desk.journal w.a.received } }))
+  started_agreed : (b : Bool) → BothAgreed x own_a own_b (cond b w (record w { a = record w.a { node = record w.a.node { sessions = no_sessions }; up = true; received = marked w.a.node.desk.journal w.a.received } }))
   started_agreed true = h
-  started_agreed false = changed_agreed (record w.a { up = true; received = marked w.a.node.desk.journal w.a.received }) w.clock refl refl h.a.heard
+  started_agreed false = record {
+    a = record { home = h.a.home; phases = λ n. tt; heard = h.a.heard; ended = h.a.ended; plain = h.a.plain; started = h.a.started; landed = h.a.landed };
+    b = record { home = h.b.home; phases = h.b.phases; heard = h.b.heard; ended = h.b.ended; plain = h.b.plain; started = h.b.started; landed = h.b.landed };
+  }
 
   lost_agreed : (sid k : ℕ) → BothAgreed x own_a own_b (world_lost sid k w)
   lost_agreed sid k =
@@ -720,7 +723,7 @@ made_first : (name : List ℕ) (home : ℕ) (key : Key) → made_for (entry.Home
 unfolding made_for
 made_first name home key = refl
 
-fresh_first : (name : List ℕ) (home : ℕ) (key : Key) → status.status (entry.Home name home ∷ []) key ≡ status.Fresh
+pub fresh_first : (name : List ℕ) (home : ℕ) (key : Key) → status.status (entry.Home name home ∷ []) key ≡ status.Fresh
 unfolding status.status
 fresh_first name home key = refl
 

@@ -16,7 +16,7 @@ use Rattle.cd_moves.specs.Node.{Desk, Sessions, Node, Deed, Keep, Touch, AskSize
 use Rattle.cd_moves.specs.Promises.{IsLegalAfter, StaysLegal}
 use Rattle.cd_moves.specs.Rows.{row, row_accept, row_choose, row_end, row_trouble}
 use Rattle.cd_moves.specs.RowsLaw.{same_config, row_stays, row_accept_stays, row_choose_stays, row_end_stays, row_trouble_stays}
-use Rattle.cd_world.specs.World.{At, A, B, Half, World, seen_from, world_did, world_does, Happening, Choice, Call, Frame, End, Task, nothing, opens, with_session, chosen, called, answers_now, came, ended, is_gone, task_of, task, ArePossible, world_after, world_within, deeds_left, Cut, cut_off, with_shelf, world_faulted, down, world_stopped, marked, world_started, world_lost, world_written, submission_of, world_submitted, Event, Does, Fails, Stops, Starts, Loses, Writes, Later, Submits, later, happens, after, IsNew, IsFirst}
+use Rattle.cd_world.specs.World.{At, A, B, Half, World, seen_from, world_did, world_does, Happening, Choice, Call, Frame, End, Task, nothing, opens, with_session, chosen, called, answers_now, came, ended, is_gone, task_of, task, ArePossible, world_after, world_within, deeds_left, Cut, cut_off, with_shelf, world_faulted, down, world_stopped, no_sessions, marked, world_started, world_lost, world_written, submission_of, world_submitted, Event, Does, Fails, Stops, Starts, Loses, Writes, Later, Submits, later, happens, after, IsNew, IsFirst}
 use Rattle.cd_world.specs.Holds.{AreLegal, Extends, Extend}
 
 -- The deeds in the world are those of the node.
@@ -237,7 +237,7 @@ module _ (x : At) (w : World) (sound : BothSound w) (happening : Happening) wher
   stops_grown k image = stopped_grown k image w.a.up
 
 module _ (w : World) (sound : BothSound w) where
-  started_grown : (b : Bool) → BothGrown w (cond b w (record w { a = record w.a { up = true; received = marked w.a.node.desk.journal w.a.received } }))
+  started_grown : (b : Bool) → BothGrown w (cond b w (record w { a = record w.a { node = record w.a.node { sessions = no_sessions }; up = true; received = marked w.a.node.desk.journal w.a.received } }))
   started_grown true = still w w sound refl refl refl
   started_grown false = still w _ sound refl refl refl
 

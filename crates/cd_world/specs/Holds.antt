@@ -1,5 +1,5 @@
 -- What holds in every world that two nodes come to.
-use Rattle.std.specs.Prelude.{◌≡◌, ℕ, List, [], ◌∷◌, ◌++◌, Bool, true, false, ◌&&◌, Some, if◌then◌else◌}
+use Rattle.std.specs.Prelude.{◌≡◌, ℕ, List, [], ◌∷◌, ◌++◌, length, take, drop, Bool, true, false, ◌&&◌, Some, if◌then◌else◌}
 use Rattle.cd_types.specs.declared.choices.Cause.{Cause}
 use Rattle.cd_types.specs.declared.key.Key.{Key}
 use Rattle.cd_types.specs.declared.rows.Outcomes.{Outcomes}
@@ -12,7 +12,7 @@ use Rattle.cd_status.specs.Processes.{own_home}
 use Rattle.cd_status.specs.Status.{outcome}
 use Rattle.cd_legal.specs.Legal.{is_legal}
 use Rattle.cd_legal.specs.Steps.{Reading, what_at, is_such, pnode_keeps}
-use Rattle.cd_world.specs.World.{At, A, B, across, Note, Sized, Read, Began, Landed, Half, World}
+use Rattle.cd_world.specs.World.{At, A, B, across, Note, Sized, Read, Began, Landed, Half, World, Unless}
 
 -- Journals.
 
@@ -98,3 +98,25 @@ LandsOnce x read notes journal n place rc why bytes =
 pub record HaveLanded (w : World) : Type 0 where
   pub a : EachEnded (LandsOnce A w.a.node.desk.config.read w.notes) (journal_of w.a)
   pub b : EachEnded (LandsOnce B w.b.node.desk.config.read w.notes) (journal_of w.b)
+
+-- Sources.
+
+-- these bytes stand in a source at an offset
+abbrev pub IsFoundIn : List ℕ → ℕ → List ℕ → Type 0
+IsFoundIn bytes at source = bytes ≡ take (length bytes) (drop at source)
+
+-- every read that was noted for a step since its last Receiving at a node found bytes of this source
+abbrev pub Agrees : List Note → At → Key → List ℕ → Type 0
+Agrees [] x key source = Unit {0}
+Agrees (Read y step at bytes ∷ notes) x key source = (same_key step key ≡ true → IsFoundIn bytes at source) × Agrees notes x key source
+Agrees (Began y r ∷ notes) x key source = Unless (is_at x y && same_key key r.key) (Agrees notes x key source)
+Agrees (Landed y r got ∷ notes) x key source = Agrees notes x key source
+Agrees (Sized y name size ∷ notes) x key source = Agrees notes x key source
+
+-- What landed is the source, whole: wherever a source of the announced length agrees with all that was read of it.
+abbrev pub AreSources : List Note → Type 0
+AreSources [] = Unit {0}
+AreSources (Landed x r got ∷ notes) = ((source : List ℕ) → length source ≡ r.length → Agrees notes x r.key source → got ≡ source) × AreSources notes
+AreSources (Read y step at bytes ∷ notes) = AreSources notes
+AreSources (Began y r ∷ notes) = AreSources notes
+AreSources (Sized y name size ∷ notes) = AreSources notes

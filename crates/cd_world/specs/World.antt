@@ -118,9 +118,13 @@ abbrev pub written_for : Key → ℕ → List ℕ → Status → (Key → List �
 written_for key at bytes (status.Open r safe) received = put same_key key (overwritten (at - r.base) bytes (received key)) received
 written_for key at bytes _ received = received
 
+abbrev pub written_under : List Entry → Option Key → ℕ → List ℕ → (Key → List ℕ) → Key → List ℕ
+written_under journal None at bytes received = received
+written_under journal (Some key) at bytes received = written_for key at bytes (status.status journal key) received
+
 abbrev pub written_by : List Entry → Option Key → FileChange → (Key → List ℕ) → Key → List ℕ
-written_by journal (Some key) (WriteFile name at bytes) received = written_for key at bytes (status.status journal key) received
-written_by journal _ _ received = received
+written_by journal key (WriteFile name at bytes) received = written_under journal key at bytes received
+written_by journal key _ received = received
 
 abbrev pub touched : ℕ → FileChange → Half → Half
 touched sid change half = record half {
@@ -346,12 +350,14 @@ down image w = record w {
 abbrev pub world_stopped : At → Happening → ℕ → FileMap → World → World
 world_stopped x happening k image w = if w.a.up then down image (world_within x happening k w) else w
 
--- A start: of what was received only what is marked stays.
+-- A start: no session is left, and of what was received only what is marked stays.
 abbrev pub marked : List Entry → (Key → List ℕ) → Key → List ℕ
 marked journal received key = take (mark journal key) (received key)
 
 abbrev pub world_started : World → World
-world_started w = if w.a.up then w else record w { a = record w.a { up = true; received = marked w.a.node.desk.journal w.a.received } }
+world_started w =
+    if w.a.up then w
+    else record w { a = record w.a { node = record w.a.node { sessions = no_sessions }; up = true; received = marked w.a.node.desk.journal w.a.received } }
 
 -- A loss: only the first frames that are on the way in a session arrive, and then its end.
 abbrev pub world_lost : ℕ → ℕ → World → World
