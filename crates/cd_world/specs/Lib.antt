@@ -7,4 +7,5 @@ pub mod KeptLaw
 pub mod PiecesLaw
 pub mod SourcesLaw
 pub mod WholeLaw
+pub mod Worked
 pub mod World
