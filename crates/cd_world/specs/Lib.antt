@@ -1,7 +1,9 @@
 pub mod AgreedLaw
 pub mod DeedsLaw
+pub mod Fronts
 pub mod FrontsLaw
 pub mod GrownLaw
+pub mod GuardsLaw
 pub mod Holds
 pub mod KeptLaw
 pub mod PiecesLaw

@@ -1,4 +1,6 @@
-ghost use Rattle.std.specs.Prelude.{List, ◌++◌};
+ghost use Rattle.std.specs.Prelude.{ℕ, List, ◌++◌, length, Option};
+ghost use Rattle.cd_outside.specs.Shelf.{FileDoubt, FileChange, IsFileImage, settled_file, file_after, file_doubt_within};
+ghost use Rattle.cd_world.specs.Fronts.{BeginsWith, IsGuarded, KeepsFront};
 ghost use Rattle.cd_world.specs.Holds.{AreLegal, Extend, HaveResults, HaveLanded, AreSources};
 ghost use Rattle.cd_world.specs.World.{World, Event, IsFirst, ArePossible, after};
 
@@ -16,4 +18,14 @@ pub fn law_of_events()
     ensures results { (w : World) (events : List Event) → IsFirst w → ArePossible w events → HaveResults (after w events) }
     ensures landings { (w : World) (events : List Event) → IsFirst w → ArePossible w events → HaveLanded (after w events) }
     ensures sources { (w : World) (events : List Event) → IsFirst w → ArePossible w events → AreSources (after w events).notes }
+{}
+
+/// A front of a file that was synced is guarded: every file that a crash may leave begins with it, within and behind
+/// every change that begins behind the front, and so does the file itself.
+pub fn law_of_fronts()
+    ensures image { (front : List ℕ) (doubt : FileDoubt) (image : Option (List ℕ)) → IsGuarded front doubt → IsFileImage doubt image → BeginsWith front image }
+    ensures synced { (front : List ℕ) (file : Option (List ℕ)) → BeginsWith front file → IsGuarded front (settled_file file) }
+    ensures file { (front : List ℕ) (file : Option (List ℕ)) → BeginsWith front file → (change : FileChange) → KeepsFront (length front) change → BeginsWith front (file_after change file) }
+    ensures within { (front : List ℕ) (file : Option (List ℕ)) → BeginsWith front file → (change : FileChange) (doubt : FileDoubt)
+        → KeepsFront (length front) change → IsGuarded front doubt → IsGuarded front (file_doubt_within change file doubt) }
 {}

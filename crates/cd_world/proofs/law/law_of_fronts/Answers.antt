@@ -1,0 +1,14 @@
+use Rattle.cd_world.specs.GuardsLaw.{front_image, front_settled, front_after, front_within}
+use Rattle.cd_world.proofs.law.law_of_fronts.Goals as goal
+
+pub returns-clause-image : goal.returns-clause-image
+returns-clause-image c = front_image
+
+pub returns-clause-synced : goal.returns-clause-synced
+returns-clause-synced c = front_settled
+
+pub returns-clause-file : goal.returns-clause-file
+returns-clause-file c = front_after
+
+pub returns-clause-within : goal.returns-clause-within
+returns-clause-within c = front_within
