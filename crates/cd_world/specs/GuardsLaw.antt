@@ -1,13 +1,14 @@
 -- A guarded front stays in every file that a crash may leave, and behind every change that keeps it.
-use Rattle.std.proofs.Common.{◌≡◌, ℕ, ◌+◌, ◌<◌, ◌≤◌, Bool, true, false, List, [], ◌∷◌, ◌++◌, length, take, Option, Some, None, inl, refl, sym, ◌∙◌, ap, subst, min, arith, length-take, length-append}
+use Rattle.std.proofs.Common.{◌≡◌, ℕ, ◌+◌, ◌<◌, ◌≤◌, Bool, true, false, List, [], ◌∷◌, ◌++◌, length, take, Option, Some, None, inl, refl, sym, ◌∙◌, ap, subst, min, arith, length-take, length-append, drop, append_assoc}
 use Rattle.std.specs.Prelude.{◌||◌, not, IsTrue, is_none}
+use Rattle.std.proofs.Math.Seq.{take-append_seam}
 use Rattle.std.proofs.lemmas.Bool.{false≢true}
 use Rattle.std.proofs.lemmas.List.{get_or-take, take-take, take-append-le, length-take-le}
 use Rattle.std.proofs.lemmas.Grind.{same_number_lists}
 use Rattle.cd_outside.specs.Content.{resized, overwritten}
 use Rattle.cd_outside.specs.Doubt.{IsOutside, IsImage}
 use Rattle.cd_outside.specs.Shelf.{FileDoubt, FileChange, WriteFile, CutFile, SyncFile, RemoveFile, IsFileImage, settled_file, file_after, file_doubt_within}
-use Rattle.cd_outside.proofs.Contents.{length-resized}
+use Rattle.cd_outside.proofs.Contents.{length-resized, resized_within}
 use Rattle.cd_world.specs.Fronts.{BeginsWith, AreBehind, IsGuarded, KeepsFront}
 
 begins_short : (front bytes : List ℕ) → take (length front) bytes ≡ front → length front ≤ length bytes
@@ -90,3 +91,34 @@ module _ (front : List ℕ) (file : Option (List ℕ)) (begins : BeginsWith fron
       record { there = guarded.there; stays = stays_put doubt.moved guarded.stays; long = omega (arith, least, kept); base = guarded.base; behind = guarded.behind }
   front_within (SyncFile name) doubt kept guarded = guarded
   front_within (RemoveFile name) doubt kept guarded = absurd kept
+
+-- Pieces behind a front, and the whole.
+
+seam : (xs ys : List ℕ) (n : ℕ) → n ≡ length xs → take n (xs ++ ys) ≡ xs
+seam xs ys n is = ap (λ (m : ℕ). take m (xs ++ ys)) is ∙ take-append_seam xs ys
+
+-- a piece that is written behind the front and what came is there, and what came is longer by it
+pub front_written : (kept got piece bytes : List ℕ) (came : ℕ) → came ≤ length got → take (length (kept ++ take came got)) bytes ≡ kept ++ take came got
+    → take (length (kept ++ take (came + length piece) (overwritten came piece got))) (overwritten (length kept + came) piece bytes) ≡ kept ++ take (came + length piece) (overwritten came piece got)
+front_written kept got piece bytes came enough begins =
+    let q : List ℕ = kept ++ take came got in
+    let at : ℕ = length kept + came in
+    let part : length (take came got) ≡ came = length-take-le came got enough in
+    let len_q : length q ≡ at = length-append kept (take came got) ∙ ap (λ (n : ℕ). length kept + n) part in
+    let fits : at ≤ length bytes = subst (λ (n : ℕ). n ≤ length bytes) len_q (begins_short q bytes begins) in
+    let head : resized at bytes ≡ q = resized_within at bytes fits ∙ ap (λ (n : ℕ). take n bytes) (sym len_q) ∙ begins in
+    let head_got : resized came got ≡ take came got = resized_within came got enough in
+    let len_piece : came + length piece ≡ length (take came got ++ piece) = sym (length-append (take came got) piece ∙ ap (λ (n : ℕ). n + length piece) part) in
+    let got_is : take (came + length piece) (overwritten came piece got) ≡ take came got ++ piece =
+    ap (λ (l : List ℕ). take (came + length piece) (l ++ piece ++ drop (came + length piece) got)) head_got ∙ seam (take came got ++ piece) (drop (came + length piece) got) (came + length piece) len_piece in
+    let whole : kept ++ take (came + length piece) (overwritten came piece got) ≡ q ++ piece = ap (λ (l : List ℕ). kept ++ l) got_is ∙ sym (append_assoc kept (take came got) piece) in
+    let written : overwritten at piece bytes ≡ (q ++ piece) ++ drop (at + length piece) bytes = ap (λ (l : List ℕ). l ++ piece ++ drop (at + length piece) bytes) head in
+    ap (λ (l : List ℕ). take (length l) (overwritten at piece bytes)) whole ∙ ap (λ (l : List ℕ). take (length (q ++ piece)) l) written
+    ∙ seam (q ++ piece) (drop (at + length piece) bytes) (length (q ++ piece)) refl ∙ sym whole
+
+-- cut to its length, the file is the front and all that came
+pub front_landed : (kept got bytes : List ℕ) → take (length (kept ++ got)) bytes ≡ kept ++ got → resized (length kept + length got) bytes ≡ kept ++ got
+front_landed kept got bytes begins =
+    let len : length (kept ++ got) ≡ length kept + length got = length-append kept got in
+    let fits : length kept + length got ≤ length bytes = subst (λ (n : ℕ). n ≤ length bytes) len (begins_short (kept ++ got) bytes begins) in
+    resized_within (length kept + length got) bytes fits ∙ ap (λ (n : ℕ). take n bytes) (sym len) ∙ begins

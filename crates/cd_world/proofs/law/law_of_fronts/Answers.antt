@@ -1,4 +1,4 @@
-use Rattle.cd_world.specs.GuardsLaw.{front_image, front_settled, front_after, front_within}
+use Rattle.cd_world.specs.GuardsLaw.{front_image, front_settled, front_after, front_within, front_written, front_landed}
 use Rattle.cd_world.proofs.law.law_of_fronts.Goals as goal
 
 pub returns-clause-image : goal.returns-clause-image
@@ -12,3 +12,9 @@ returns-clause-file c = front_after
 
 pub returns-clause-within : goal.returns-clause-within
 returns-clause-within c = front_within
+
+pub returns-clause-written : goal.returns-clause-written
+returns-clause-written c = front_written
+
+pub returns-clause-landed : goal.returns-clause-landed
+returns-clause-landed c = front_landed
