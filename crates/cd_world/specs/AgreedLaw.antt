@@ -408,9 +408,6 @@ module _ (x : At) (own_a own_b : Own) (sid : ℕ) where
   read_landings y key None at bytes notes = refl
   read_landings y key (Some step) at bytes notes = refl
 
-  same_a : (w w2 : World) → BothAgreed x own_a own_b w → w2.b ≡ w.b → Agreed x own_a w2.a w2.b w2.notes → Agreed (across x) own_b w2.b w2.a w2.notes → BothAgreed x own_a own_b w2
-  same_a w w2 h is one two = record { a = one; b = two }
-
   begin_agreed : (w : World) (key : Key) (phase : Phase) → BothAgreed x own_a own_b w → PhaseOk own_a (Of w.b) phase → BothAgreed x own_a own_b (world_did x sid (Begin key phase) w)
   begin_agreed w key phase h ok = record {
     a = record {

@@ -474,16 +474,16 @@ module _ (own : Option (List ℕ × ℕ)) (Says : Key → Outcomes → Type 0) w
   row_ok node sid answers m home keyed ok heard =
       parts_ok most_parts node sid answers (first_part node.desk node.sessions answers.now sid m) home (first_ok node.desk home keyed answers.now node.sessions sid m ok heard)
 
-  connect_ok : (desk : Desk) (now : ℕ) (chosen : Row) (waits : Waits) (connected : Bool) (found : Option (List ℕ × ℕ)) → AllFit desk.journal (connect desk now chosen waits connected)
-  connect_ok desk now chosen waits true found = (tt, hello_ok (own_home desk.journal), tt) where
+  connect_ok : (desk : Desk) (now : ℕ) (chosen : Row) (waits : Waits) (connected : Bool) → AllFit desk.journal (connect desk now chosen waits connected)
+  connect_ok desk now chosen waits true = (tt, hello_ok (own_home desk.journal), tt) where
     hello_ok : (known : Option (List ℕ × ℕ)) → AllSent desk.journal (hello known desk.config.block)
     hello_ok None = tt
     hello_ok (Some is) = (tt, tt)
-  connect_ok desk now chosen waits false found = (tt, tt)
+  connect_ok desk now chosen waits false = (tt, tt)
 
   call_ok : (desk : Desk) (now : ℕ) (connected : Bool) (chosen : Row) (waits : Option Waits) → AllFit desk.journal (call desk now connected chosen waits)
   call_ok desk now connected chosen None = (tt, tt)
-  call_ok desk now connected chosen (Some waits) = connect_ok desk now chosen waits connected None
+  call_ok desk now connected chosen (Some waits) = connect_ok desk now chosen waits connected
 
   chosen_ok : (desk : Desk) (now : ℕ) (connected : Bool) (chosen : Option Row) → AllFit desk.journal (row_chosen desk now connected chosen)
   chosen_ok desk now connected None = tt

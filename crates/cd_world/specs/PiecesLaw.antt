@@ -572,13 +572,10 @@ module _ (x : At) (sid : ℕ) where
         (record { fit = (silent, tt, rest.fit); then = rest.then }) (closed_good w phase (calm_of w silent))
 
     forget_good : (w : World) (talk : Talk) (last : Option Key) (n : ℕ) → Calm w → Good w (forget w.a.node.desk talk last n)
-    forget_good w talk last n calm = record { fit = by_known (is_forgotten (journal_of w.a) talk.pnode talk.home n); then = then_by (is_forgotten (journal_of w.a) talk.pnode talk.home n) } where
+    forget_good w talk last n calm = record { fit = by_known (is_forgotten (journal_of w.a) talk.pnode talk.home n); then = tt } where
       by_known : (b : Bool) → AllGood w (cond b [] (Keep (entry.Forgot talk.pnode talk.home n) ∷ []) ++ Go (Ready (with_number n talk) last) [] ∷ [])
       by_known true = (record { quiet = omega (arith, calm); sent = tt; takes = tt }, tt)
       by_known false = (tt, (record { quiet = omega (arith, calm); sent = tt; takes = tt }, tt))
-
-      then_by : (b : Bool) → Unit {0}
-      then_by b = tt
 
     ready_row_good : (w : World) (phase : Phase) (talk : Talk) (last : Option Key) (m : Message) → Known w → Calm w → (speaks m ≡ 1 → Silent w) → Good w (row_ready w.a.node.desk w.a.node.sessions now sid phase talk last m)
     ready_row_good w phase talk last (message.StepCopyTo key name disp interval len) known calm quiet =
