@@ -1,7 +1,7 @@
 -- What two nodes have agreed on: results on the way are the sender's outcomes, and each Ended is its keeper's outcome. What
 -- landed has an outcome, and landed once.
-use Rattle.std.proofs.Common.{◌≡◌, ℕ, zero, suc, ◌+◌, Bool, true, false, cond, ◌&&◌, eqb, ltb, leb, List, [], ◌∷◌, ◌++◌, length, take, drop, Option, Some, None, ◌⊎◌, inl, inr, refl, sym, ◌∙◌, ap, subst, arith}
-use Rattle.std.specs.Prelude.{◌||◌, not}
+use Rattle.std.proofs.Common.{◌≡◌, ℕ, zero, suc, ◌+◌, Bool, true, false, cond, ◌&&◌, eqb, ltb, List, [], ◌∷◌, ◌++◌, length, take, drop, Option, Some, None, inl, inr, refl, sym, ◌∙◌, ap, subst}
+use Rattle.std.specs.Prelude.{not}
 use Rattle.std.proofs.lemmas.List.{append-nil, take-append-drop}
 use Rattle.std.proofs.lemmas.Bool.{cases_Bool, and_parts, or_cases, and_from, cond-true, cond-false, false≢true, eqb-true}
 use Rattle.cd_types.specs.Choices.{cause_code}
@@ -31,9 +31,9 @@ use Rattle.cd_moves.specs.declared.session.Phase.{Phase}
 use Rattle.cd_moves.specs.Node.{Config, Desk, Sessions, Node, Deed, Keep, Touch, AskSize, AskBytes, Begin, Go, Answers, did, does, recorded}
 use Rattle.cd_moves.specs.Rows.{row_choose, row_trouble}
 use Rattle.cd_moves.specs.RowsLaw.{same_config, part_extends}
-use Rattle.cd_world.specs.World.{At, A, B, across, Note, Sized, Read, Began, Landed, Half, World, seen_from, landing_of, noted_by, read_for, is_gone, at_session, behind_them, world_did, world_does, Happening, Choice, Call, Frame, End, Task, nothing, opens, with_session, called, answers_now, came, ended, task_of, task, world_after, world_within, deeds_left, Cut, cut_off, with_shelf, world_faulted, down, world_stopped, no_sessions, marked, world_started, world_lost, world_written, submission_of, world_submitted, Event, Does, Fails, Stops, Starts, Loses, Writes, Later, Submits, later, happens, after, IsNew, IsFirst, ArePossible}
-use Rattle.cd_world.specs.Holds.{journal_of, IsOutcome, IsOwnStep, EachEnded, EndsAsKept, HaveResults, is_at, landings, IsOne, keeper, LandsOnce, HaveLanded}
-use Rattle.cd_world.specs.DeedsLaw.{OwnKey, PhaseOk, EndedBy, KeepOk, SentOk, AllSent, AllFit, HeardOk, row_ok, choose_ok, close_ok, trouble_ok}
+use Rattle.cd_world.specs.World.{At, A, B, across, Note, Half, World, seen_from, landing_of, noted_by, read_for, is_gone, at_session, behind_them, world_did, world_does, Happening, Choice, Call, Frame, End, Task, nothing, opens, with_session, called, answers_now, came, ended, task_of, task, world_after, world_within, deeds_left, Cut, cut_off, with_shelf, world_faulted, down, world_stopped, no_sessions, marked, world_started, world_lost, world_written, submission_of, world_submitted, Event, Does, Fails, Stops, Starts, Loses, Writes, Later, Submits, later, happens, after, IsNew, IsFirst, ArePossible}
+use Rattle.cd_world.specs.Holds.{journal_of, IsOutcome, IsOwnStep, EachEnded, EndsAsKept, HaveResults, is_at, landings, IsOne, LandsOnce, HaveLanded}
+use Rattle.cd_world.specs.DeedsLaw.{PhaseOk, EndedBy, KeepOk, SentOk, AllSent, AllFit, HeardOk, row_ok, choose_ok, close_ok, trouble_ok}
 use Rattle.cd_world.specs.GrownLaw.{does_node, BothGrown, BothSound, within_grown, whole_grown, trouble_grown, legal_more, happens_grown, after_grown, first_sound}
 use Rattle.cd_world.specs.KeptLaw.{outcome_kept}
 
@@ -407,9 +407,6 @@ module _ (x : At) (own_a own_b : Own) (sid : ℕ) where
   read_landings : (y : At) (key : Key) (known : Option Key) (at : ℕ) (bytes : List ℕ) (notes : List Note) → landings y key (read_for x known at bytes notes) ≡ landings y key notes
   read_landings y key None at bytes notes = refl
   read_landings y key (Some step) at bytes notes = refl
-
-  same_a : (w w2 : World) → BothAgreed x own_a own_b w → w2.b ≡ w.b → Agreed x own_a w2.a w2.b w2.notes → Agreed (across x) own_b w2.b w2.a w2.notes → BothAgreed x own_a own_b w2
-  same_a w w2 h is one two = record { a = one; b = two }
 
   begin_agreed : (w : World) (key : Key) (phase : Phase) → BothAgreed x own_a own_b w → PhaseOk own_a (Of w.b) phase → BothAgreed x own_a own_b (world_did x sid (Begin key phase) w)
   begin_agreed w key phase h ok = record {

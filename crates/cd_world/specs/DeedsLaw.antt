@@ -1,11 +1,9 @@
 -- What the deeds of every row are like: which entries they record, which Results they send, and whose keys the sessions have.
-use Rattle.std.proofs.Common.{◌≡◌, ℕ, zero, suc, ◌+◌, ◌≤◌, Bool, true, false, cond, ◌&&◌, eqb, ltb, leb, List, [], ◌∷◌, ◌++◌, length, Option, Some, None, ◌⊎◌, inl, inr, refl, sym, ◌∙◌, ap, subst, min}
+use Rattle.std.proofs.Common.{◌≡◌, ℕ, zero, suc, ◌+◌, Bool, true, false, cond, ◌&&◌, eqb, ltb, leb, List, [], ◌∷◌, ◌++◌, length, Option, Some, None, ◌⊎◌, inl, inr, refl, sym, ◌∙◌, subst}
 use Rattle.std.specs.Prelude.{◌||◌, not}
-use Rattle.std.specs.Str.{bytes_eq}
-use Rattle.std.proofs.lemmas.Bool.{cases_Bool, and_parts, cond-true, cond-false}
+use Rattle.std.proofs.lemmas.Bool.{cases_Bool, cond-true, cond-false}
 use Rattle.cd_types.specs.declared.choices.Cause.{Cause}
 use Rattle.cd_types.specs.declared.choices.Cause.TheVariants as cause
-use Rattle.cd_types.specs.declared.choices.Disp.{Disp}
 use Rattle.cd_types.specs.declared.choices.Side.{Side}
 use Rattle.cd_types.specs.declared.choices.Side.TheVariants as side
 use Rattle.cd_types.specs.declared.key.Key.{Key}
@@ -42,9 +40,9 @@ use Rattle.cd_moves.specs.declared.session.Then.{Then}
 use Rattle.cd_moves.specs.declared.session.Then.TheVariants.{Done, Next, Undo, Push, Offered, Onto, Piece}
 use Rattle.cd_moves.specs.Closing.{own_number, key_under_way, is_running, retry, retry_own, close, trouble_for, trouble}
 use Rattle.cd_moves.specs.Node.{Desk, Sessions, Node, Deed, Keep, Touch, AskSize, AskBytes, Begin, Go, Part, only, did, does, Answers}
-use Rattle.cd_moves.specs.Receiving.{failed, answer, drop_back, undo, undone, given_up, resume, receive_anew, is_same_receiving, receive_again, receive_first, receive_from, receive, kept_base, is_there, is_new, receiving_of, target_known, is_piece_at, marks_at, take_piece, landed_whole, land, gives_up}
-use Rattle.cd_moves.specs.Rows.{are_allowed, checked, own_talk, held, rejected, is_called, run, row_greet, ready_from, row_await, announced_by, receive_announced, row_ask, row_send, row_take_of, row_take, welcome, row_fresh, is_number_of, is_of_talk, with_number, is_newer, answered, unless_done, take_step, offered, forget, is_in_place, row_ready, row_offer, part_in, is_dead, is_detached, first_part, part_behind, asked, is_done, all_parts, most_parts, row, hello, connect, call, row_chosen, row_choose, busy}
-use Rattle.cd_moves.specs.Sending.{after_sending, send_from, piece_len, piece_read, interval_of, push, push_of, source_known, pull, copy, finish, begin, ended, step_at, key_at, next_step, next, settled}
+use Rattle.cd_moves.specs.Receiving.{failed, answer, drop_back, undone, given_up, resume, receive_anew, is_same_receiving, receive_again, receive_first, receive_from, receive, kept_base, is_there, is_new, receiving_of, target_known, is_piece_at, take_piece, landed_whole, land, gives_up}
+use Rattle.cd_moves.specs.Rows.{are_allowed, checked, held, rejected, is_called, run, row_greet, ready_from, row_await, announced_by, receive_announced, row_ask, row_send, row_take_of, row_take, welcome, row_fresh, is_number_of, is_of_talk, with_number, is_newer, unless_done, take_step, offered, forget, is_in_place, row_ready, row_offer, part_in, is_dead, is_detached, first_part, part_behind, asked, is_done, all_parts, most_parts, row, hello, connect, call, row_chosen, row_choose, busy}
+use Rattle.cd_moves.specs.Sending.{after_sending, send_from, piece_len, piece_read, push, push_of, copy, begin, ended, step_at, key_at, next_step, next, settled}
 
 -- The outcome that an entry gives.
 
@@ -476,16 +474,16 @@ module _ (own : Option (List ℕ × ℕ)) (Says : Key → Outcomes → Type 0) w
   row_ok node sid answers m home keyed ok heard =
       parts_ok most_parts node sid answers (first_part node.desk node.sessions answers.now sid m) home (first_ok node.desk home keyed answers.now node.sessions sid m ok heard)
 
-  connect_ok : (desk : Desk) (now : ℕ) (chosen : Row) (waits : Waits) (connected : Bool) (found : Option (List ℕ × ℕ)) → AllFit desk.journal (connect desk now chosen waits connected)
-  connect_ok desk now chosen waits true found = (tt, hello_ok (own_home desk.journal), tt) where
+  connect_ok : (desk : Desk) (now : ℕ) (chosen : Row) (waits : Waits) (connected : Bool) → AllFit desk.journal (connect desk now chosen waits connected)
+  connect_ok desk now chosen waits true = (tt, hello_ok (own_home desk.journal), tt) where
     hello_ok : (known : Option (List ℕ × ℕ)) → AllSent desk.journal (hello known desk.config.block)
     hello_ok None = tt
     hello_ok (Some is) = (tt, tt)
-  connect_ok desk now chosen waits false found = (tt, tt)
+  connect_ok desk now chosen waits false = (tt, tt)
 
   call_ok : (desk : Desk) (now : ℕ) (connected : Bool) (chosen : Row) (waits : Option Waits) → AllFit desk.journal (call desk now connected chosen waits)
   call_ok desk now connected chosen None = (tt, tt)
-  call_ok desk now connected chosen (Some waits) = connect_ok desk now chosen waits connected None
+  call_ok desk now connected chosen (Some waits) = connect_ok desk now chosen waits connected
 
   chosen_ok : (desk : Desk) (now : ℕ) (connected : Bool) (chosen : Option Row) → AllFit desk.journal (row_chosen desk now connected chosen)
   chosen_ok desk now connected None = tt

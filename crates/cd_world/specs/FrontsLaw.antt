@@ -1,5 +1,5 @@
 -- Bytes that are the front of a source, and pieces of it that are written behind.
-use Rattle.std.proofs.Common.{◌≡◌, ℕ, ◌+◌, ◌-◌, ◌≤◌, zero, suc, List, [], ◌∷◌, ◌++◌, length, take, drop, replicate, refl, sym, ◌∙◌, ap, ⊎_elim, inl, inr, arith, min, length-append, length-take, length-drop, append_assoc}
+use Rattle.std.proofs.Common.{◌≡◌, ℕ, ◌+◌, ◌-◌, ◌≤◌, List, ◌++◌, length, take, drop, replicate, sym, ◌∙◌, ap, inl, inr, arith, min, length-append, length-take, length-drop, append_assoc}
 use Rattle.std.proofs.lemmas.Bool.{cases_lt}
 use Rattle.std.proofs.lemmas.List.{drop-drop, take-take, drop-take, take_all, drop_all, append-nil, take-append-drop, length-take-le}
 use Rattle.cd_outside.specs.Content.{resized, overwritten}

@@ -8,16 +8,16 @@ use Rattle.cd_entries.specs.declared.entry.Entry.{Entry}
 use Rattle.cd_entries.specs.declared.entry.Entry.TheVariants as entry
 use Rattle.cd_outside.specs.Shelf as shelves
 use Rattle.cd_frames.specs.Message.{Message}
-use Rattle.cd_status.specs.Processes.{latest, submitted}
+use Rattle.cd_status.specs.Processes.{latest}
 use Rattle.cd_legal.specs.Legal.{allowed, is_legal}
 use Rattle.cd_legal.specs.Promises.{HavePriorities}
 use Rattle.cd_legal.specs.Steps.{Reading}
-use Rattle.cd_moves.specs.Node.{Desk, Sessions, Node, Deed, Keep, Touch, AskSize, AskBytes, Begin, Go, Answers, did, does, recorded}
+use Rattle.cd_moves.specs.Node.{Desk, Node, Deed, Keep, Touch, AskSize, AskBytes, Begin, Go, Answers, does, recorded}
 use Rattle.cd_moves.specs.Promises.{IsLegalAfter, StaysLegal}
-use Rattle.cd_moves.specs.Rows.{row, row_accept, row_choose, row_end, row_trouble}
+use Rattle.cd_moves.specs.Rows.{row_choose, row_trouble}
 use Rattle.cd_moves.specs.RowsLaw.{same_config, row_stays, row_accept_stays, row_choose_stays, row_end_stays, row_trouble_stays}
-use Rattle.cd_world.specs.World.{At, A, B, Half, World, seen_from, world_did, world_does, Happening, Choice, Call, Frame, End, Task, nothing, opens, with_session, chosen, called, answers_now, came, ended, is_gone, task_of, task, ArePossible, world_after, world_within, deeds_left, Cut, cut_off, with_shelf, world_faulted, down, world_stopped, no_sessions, marked, world_started, world_lost, world_written, submission_of, world_submitted, Event, Does, Fails, Stops, Starts, Loses, Writes, Later, Submits, later, happens, after, IsNew, IsFirst}
-use Rattle.cd_world.specs.Holds.{AreLegal, Extends, Extend}
+use Rattle.cd_world.specs.World.{At, A, B, Half, World, seen_from, world_did, world_does, Happening, Choice, Call, Frame, End, Task, nothing, opens, with_session, called, answers_now, came, ended, is_gone, task_of, task, ArePossible, world_after, world_within, deeds_left, Cut, cut_off, with_shelf, world_faulted, down, world_stopped, no_sessions, marked, world_lost, world_written, submission_of, world_submitted, Event, Does, Fails, Stops, Starts, Loses, Writes, Later, Submits, happens, after, IsNew, IsFirst}
+use Rattle.cd_world.specs.Holds.{AreLegal, Extend}
 
 -- The deeds in the world are those of the node.
 

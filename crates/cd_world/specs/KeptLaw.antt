@@ -1,8 +1,8 @@
 -- In a legal journal a node has outcomes of its own steps only where it is their keeper.
-use Rattle.std.proofs.Common.{◌≡◌, ℕ, Bool, true, false, cond, ◌&&◌, eqb, leb, List, [], ◌∷◌, ◌++◌, Option, Some, None, ◌⊎◌, inl, inr, refl, sym, ◌∙◌, ap, subst}
-use Rattle.std.specs.Prelude.{◌+◌, ◌||◌, not, slice_get}
+use Rattle.std.proofs.Common.{◌≡◌, ℕ, Bool, true, ◌&&◌, eqb, leb, List, [], ◌∷◌, Option, Some, None, inl, inr, refl, sym, ◌∙◌, ap, subst}
+use Rattle.std.specs.Prelude.{◌+◌, not, slice_get}
 use Rattle.std.specs.Str.{bytes_eq}
-use Rattle.std.proofs.lemmas.Bool.{cases_Bool, and_parts, or_cases, cond-true, cond-false, false≢true, eqb-true, eq-eqb, and_from}
+use Rattle.std.proofs.lemmas.Bool.{cases_Bool, and_parts, or_cases, false≢true, eq-eqb, and_from}
 use Rattle.std.proofs.lemmas.Slice.Eq.{bytes_eq-Decides}
 use Rattle.cd_types.specs.Choices.{disp_code}
 use Rattle.cd_types.specs.Format.{◌>>=◌}
@@ -22,10 +22,10 @@ use Rattle.cd_status.specs.Processes.{Submission, own_home, is_home_of, is_own, 
 use Rattle.cd_status.specs.Status as status
 use Rattle.cd_status.specs.Status.{Status, outcome, done_with}
 use Rattle.cd_status.specs.StatusLaw.{outcome-status, status-other, status-own}
-use Rattle.cd_legal.specs.Legal.{is_legal, is_empty, is_first, may_follow, may_receive, may_receive_from, may_mark_from, may_drop_from, may_end_from, is_base_of, greatest_file}
+use Rattle.cd_legal.specs.Legal.{is_legal, is_empty, may_follow, may_receive_from, may_drop_from, may_end_from, is_base_of, greatest_file}
 use Rattle.cd_legal.specs.LegalLaw.{legal_parts, follows}
 use Rattle.cd_legal.specs.NumbersLaw as numbers
-use Rattle.cd_legal.specs.Steps.{Reading, what_of, what_at, stmts_in, next_place, is_such, pnode_keeps, fits_own, is_pull_of, is_run_of, is_interval}
+use Rattle.cd_legal.specs.Steps.{Reading, what_of, what_at, stmts_in, next_place, is_such, pnode_keeps, fits_own, is_pull_of, is_interval}
 
 -- a step that is being received, or has its outcome
 abbrev IsKept : Status → Type 0

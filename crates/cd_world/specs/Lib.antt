@@ -1,10 +1,13 @@
 pub mod AgreedLaw
 pub mod DeedsLaw
+pub mod Fronts
 pub mod FrontsLaw
 pub mod GrownLaw
+pub mod GuardsLaw
 pub mod Holds
 pub mod KeptLaw
 pub mod PiecesLaw
 pub mod SourcesLaw
 pub mod WholeLaw
+pub mod Worked
 pub mod World

@@ -1,8 +1,7 @@
 -- What the deeds of every row are like for the bytes that are received: who speaks in a session, what is marked, what lands,
 -- and which bytes are written and sent.
-use Rattle.std.proofs.Common.{◌≡◌, ℕ, zero, suc, ◌+◌, ◌-◌, ◌≤◌, Bool, true, false, cond, ◌&&◌, eqb, ltb, leb, List, [], ◌∷◌, ◌++◌, length, Option, Some, None, ◌⊎◌, inl, inr, refl, sym, ◌∙◌, ap, subst, min, take, drop, arith, length-take}
+use Rattle.std.proofs.Common.{◌≡◌, ℕ, zero, suc, ◌+◌, ◌-◌, ◌≤◌, Bool, true, false, cond, ◌&&◌, eqb, ltb, leb, List, [], ◌∷◌, ◌++◌, length, Option, Some, None, inl, inr, refl, sym, ◌∙◌, ap, subst, min, take, arith, length-take}
 use Rattle.std.specs.Prelude.{◌%◌, ◌||◌, not}
-use Rattle.std.specs.Str.{bytes_eq}
 use Rattle.std.proofs.lemmas.Bool.{cases_Bool, and_parts, or_parts, cond-true, cond-false, false≢true, eqb-true, eq-eqb, leb-true}
 use Rattle.cd_outside.specs.Content.{overwritten}
 use Rattle.cd_types.specs.declared.choices.Cause.{Cause}
@@ -26,7 +25,7 @@ use Rattle.cd_frames.specs.Message.{Message}
 use Rattle.cd_frames.specs.declared.frame.Hello.{Hello}
 use Rattle.cd_frames.specs.declared.frame.RejectCause.TheVariants as reject
 use Rattle.cd_frames.specs.declared.frame.Welcome.{Welcome}
-use Rattle.cd_status.specs.Keys.{same_key, is_of}
+use Rattle.cd_status.specs.Keys.{same_key}
 use Rattle.cd_status.specs.KeysLaw.{same_key-refl, same_key-true}
 use Rattle.cd_status.specs.Openings.{is_in_use, is_receiving_for}
 use Rattle.cd_status.specs.Processes.{submission, own_home, is_live, is_forgotten, is_over}
@@ -44,13 +43,13 @@ use Rattle.cd_moves.specs.declared.session.Phase.{Phase}
 use Rattle.cd_moves.specs.declared.session.Phase.TheVariants.{Gone, Greet, Await, Ask, Fresh, Ready, Offer, Send, Take}
 use Rattle.cd_moves.specs.declared.session.Then.{Then}
 use Rattle.cd_moves.specs.declared.session.Then.TheVariants.{Done, Next, Undo, Push, Offered, Onto, Piece}
-use Rattle.cd_moves.specs.Closing.{own_number, key_under_way, is_running, retry, retry_own, close, trouble_for, trouble}
-use Rattle.cd_moves.specs.Node.{Desk, Sessions, Node, Deed, Keep, Touch, AskSize, AskBytes, Begin, Go, Part, only, put, did, does, Answers}
-use Rattle.cd_moves.specs.Receiving.{failed, answer, drop_back, undo, undone, given_up, resume, receive_anew, is_same_receiving, receive_again, receive_first, receive_from, receive, kept_base, is_there, is_new, receiving_of, target_known, is_piece_at, marks_at, take_piece, landed_whole, land, gives_up}
-use Rattle.cd_moves.specs.Rows.{are_allowed, checked, own_talk, held, rejected, is_called, run, row_greet, ready_from, row_await, announced_by, receive_announced, row_ask, row_send, row_take_of, row_take, welcome, row_fresh, is_number_of, is_of_talk, with_number, is_newer, answered, unless_done, take_step, offered, forget, is_in_place, row_ready, row_offer, part_in, is_dead, is_sid, is_detached, first_part, source_in, part_behind, asked, is_done, all_parts, most_parts, row, hello, connect, call, row_chosen, row_choose, busy}
-use Rattle.cd_moves.specs.Sending.{after_sending, send_from, piece_len, piece_read, interval_of, push, push_of, source_known, pull, copy, finish, begin, ended, step_at, key_at, next_step, next, settled}
+use Rattle.cd_moves.specs.Closing.{own_number, key_under_way, is_running, retry, retry_own, close, trouble_for}
+use Rattle.cd_moves.specs.Node.{Desk, Sessions, Node, Deed, Keep, Touch, AskSize, AskBytes, Begin, Go, Part, only, put, does, Answers}
+use Rattle.cd_moves.specs.Receiving.{failed, answer, drop_back, undo, undone, given_up, resume, receive_anew, is_same_receiving, receive_again, receive_first, receive_from, receive, kept_base, is_there, is_new, receiving_of, target_known, is_piece_at, take_piece, landed_whole, land, gives_up}
+use Rattle.cd_moves.specs.Rows.{are_allowed, checked, held, rejected, is_called, run, row_greet, ready_from, row_await, announced_by, receive_announced, row_ask, row_send, row_take_of, row_take, welcome, row_fresh, is_number_of, is_of_talk, with_number, is_newer, unless_done, take_step, offered, forget, is_in_place, row_ready, row_offer, part_in, is_dead, is_sid, is_detached, first_part, source_in, part_behind, asked, is_done, all_parts, most_parts, row, hello, connect, call, row_chosen, row_choose, busy}
+use Rattle.cd_moves.specs.Sending.{after_sending, send_from, piece_len, piece_read, push, push_of, copy, begin, ended, step_at, key_at, next_step, next, settled}
 use Rattle.cd_outside.specs.Shelf.{FileChange, WriteFile}
-use Rattle.cd_world.specs.World.{At, A, B, across, Note, Half, World, Unless, written_for, written_by, readied, world_did, world_does, AreTold, AllTold, bytes_told, read_for}
+use Rattle.cd_world.specs.World.{At, Note, World, Unless, written_for, written_by, readied, world_did, world_does, AreTold, AllTold, bytes_told, read_for}
 use Rattle.cd_world.specs.Holds.{journal_of, IsFoundIn, Agrees}
 use Rattle.cd_world.specs.FrontsLaw.{length_over}
 use Rattle.cd_world.specs.GrownLaw.{does_node}
@@ -573,13 +572,10 @@ module _ (x : At) (sid : ℕ) where
         (record { fit = (silent, tt, rest.fit); then = rest.then }) (closed_good w phase (calm_of w silent))
 
     forget_good : (w : World) (talk : Talk) (last : Option Key) (n : ℕ) → Calm w → Good w (forget w.a.node.desk talk last n)
-    forget_good w talk last n calm = record { fit = by_known (is_forgotten (journal_of w.a) talk.pnode talk.home n); then = then_by (is_forgotten (journal_of w.a) talk.pnode talk.home n) } where
+    forget_good w talk last n calm = record { fit = by_known (is_forgotten (journal_of w.a) talk.pnode talk.home n); then = tt } where
       by_known : (b : Bool) → AllGood w (cond b [] (Keep (entry.Forgot talk.pnode talk.home n) ∷ []) ++ Go (Ready (with_number n talk) last) [] ∷ [])
       by_known true = (record { quiet = omega (arith, calm); sent = tt; takes = tt }, tt)
       by_known false = (tt, (record { quiet = omega (arith, calm); sent = tt; takes = tt }, tt))
-
-      then_by : (b : Bool) → Unit {0}
-      then_by b = tt
 
     ready_row_good : (w : World) (phase : Phase) (talk : Talk) (last : Option Key) (m : Message) → Known w → Calm w → (speaks m ≡ 1 → Silent w) → Good w (row_ready w.a.node.desk w.a.node.sessions now sid phase talk last m)
     ready_row_good w phase talk last (message.StepCopyTo key name disp interval len) known calm quiet =

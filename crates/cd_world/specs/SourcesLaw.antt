@@ -1,13 +1,10 @@
 -- What lands is the source, whole: the bytes received and each piece on the way are what every source has there that agrees with
 -- the reads noted since the key's last Receiving.
-use Rattle.std.proofs.Common.{◌≡◌, ℕ, zero, suc, ◌+◌, ◌-◌, ◌≤◌, Bool, true, false, cond, ◌&&◌, eqb, leb, List, [], ◌∷◌, ◌++◌, length, take, drop, Option, Some, None, ◌⊎◌, inl, inr, refl, sym, ◌∙◌, ap, subst, min, arith, length-take}
-use Rattle.std.specs.Prelude.{◌||◌, not}
-use Rattle.std.proofs.lemmas.List.{append-nil, take-append-drop}
-use Rattle.std.proofs.lemmas.Bool.{cases_Bool, and_parts, and_from, cond-true, cond-false, false≢true, eqb-true, eq-eqb}
+use Rattle.std.proofs.Common.{◌≡◌, ℕ, zero, suc, ◌+◌, ◌-◌, ◌≤◌, Bool, true, false, cond, ◌&&◌, eqb, List, [], ◌∷◌, ◌++◌, length, take, Option, Some, None, inl, inr, refl, sym, ◌∙◌, ap, subst, min, arith, length-take}
+use Rattle.std.proofs.lemmas.Bool.{cases_Bool, cond-true, cond-false, false≢true, eqb-true, eq-eqb}
 use Rattle.cd_outside.specs.Content.{overwritten}
 use Rattle.cd_outside.specs.Shelf as shelves
 use Rattle.cd_outside.specs.Shelf.{FileChange, WriteFile}
-use Rattle.cd_types.specs.declared.card.Filed.{Filed}
 use Rattle.cd_types.specs.declared.key.Key.{Key}
 use Rattle.cd_types.specs.declared.rows.Outcomes.{Outcomes}
 use Rattle.cd_types.specs.declared.rows.Receiving.{Receiving}
@@ -23,17 +20,16 @@ use Rattle.cd_status.specs.StatusLaw.{status-other, status-own}
 use Rattle.cd_legal.specs.Legal.{is_legal}
 use Rattle.cd_legal.specs.LegalLaw.{legal_parts, legal_before}
 use Rattle.cd_legal.specs.OpeningsLaw as openings
-use Rattle.cd_legal.specs.Steps.{Reading}
 use Rattle.cd_moves.specs.declared.session.Phase.{Phase}
-use Rattle.cd_moves.specs.declared.session.Phase.TheVariants.{Gone, Greet, Await, Ask, Fresh, Ready, Offer, Send, Take}
+use Rattle.cd_moves.specs.declared.session.Phase.TheVariants.{Take}
 use Rattle.cd_moves.specs.Closing.{key_under_way}
-use Rattle.cd_moves.specs.Node.{Config, Desk, Sessions, Node, Deed, Keep, Touch, AskSize, AskBytes, Begin, Go, Answers, put, did, does, recorded}
+use Rattle.cd_moves.specs.Node.{Deed, Keep, Touch, AskSize, AskBytes, Begin, Go, put, did, does}
 use Rattle.cd_moves.specs.RowsLaw.{part_extends}
-use Rattle.cd_world.specs.World.{At, A, B, across, Note, Sized, Read, Began, Landed, Half, World, Unless, seen_from, landing_of, noted_by, read_for, received_by, written_for, written_by, readied, is_gone, at_session, behind_them, world_did, world_does}
+use Rattle.cd_world.specs.World.{At, across, Note, Began, Half, World, Unless, landing_of, noted_by, read_for, written_for, written_by, readied, is_gone, at_session, behind_them, world_did, world_does}
 use Rattle.cd_world.specs.Holds.{journal_of, is_at, IsFoundIn, Agrees, AreSources}
-use Rattle.cd_world.specs.FrontsLaw.{IsFront, front_take, front_whole, front_short, length_over, over_front}
-use Rattle.cd_world.specs.AgreedLaw.{at_self, not_across, either_at}
-use Rattle.cd_world.specs.PiecesLaw.{speaks, speaking, on_way, NotTaking, OfOpen, Silent, Calm, GoodKeep, Brought, GoodChange, SentTrue, AllTrue, TakesOn, GoesOn, AllGood}
+use Rattle.cd_world.specs.FrontsLaw.{IsFront, front_take, front_whole, length_over, over_front}
+use Rattle.cd_world.specs.AgreedLaw.{at_self, not_across}
+use Rattle.cd_world.specs.PiecesLaw.{speaking, on_way, NotTaking, OfOpen, Silent, GoodKeep, GoodChange, SentTrue, AllTrue, TakesOn, GoesOn, AllGood}
 
 abbrev pub TookAt : ℕ → Half → Phase → Type 0
 TookAt n a (Take role talk key came) = a.node.sessions.holder key ≡ Some n → OfOpen (journal_of a) key (λ r safe. came ≤ length (a.received key))

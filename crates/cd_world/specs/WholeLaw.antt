@@ -1,14 +1,13 @@
 -- After every list of events what landed is the source, whole.
-use Rattle.std.proofs.Common.{◌≡◌, ℕ, zero, suc, ◌+◌, ◌≤◌, Bool, true, false, cond, ◌&&◌, eqb, ltb, List, [], ◌∷◌, ◌++◌, length, take, drop, Option, Some, None, inl, inr, refl, sym, ◌∙◌, ap, subst, min, arith, length-take}
+use Rattle.std.proofs.Common.{◌≡◌, ℕ, ◌+◌, ◌≤◌, Bool, true, false, cond, ◌&&◌, eqb, List, [], ◌∷◌, ◌++◌, length, take, drop, Option, Some, None, inl, inr, refl, sym, ◌∙◌, ap, subst, min, arith, length-take}
 use Rattle.std.proofs.lemmas.List.{append-nil, take-append-drop}
-use Rattle.std.proofs.lemmas.Bool.{cases_Bool, and_parts, cond-true, cond-false, false≢true, eqb-true, eq-eqb}
+use Rattle.std.proofs.lemmas.Bool.{cases_Bool, cond-true, cond-false, false≢true, eq-eqb}
 use Rattle.cd_outside.specs.Shelf as shelves
 use Rattle.cd_types.specs.declared.card.Filed.{Filed}
 use Rattle.cd_types.specs.declared.key.Key.{Key}
 use Rattle.cd_types.specs.declared.rows.Receiving.{Receiving}
 use Rattle.cd_types.specs.declared.rows.Row.{Row}
 use Rattle.cd_entries.specs.declared.entry.Entry.{Entry}
-use Rattle.cd_entries.specs.declared.entry.Entry.TheVariants as entry
 use Rattle.cd_frames.specs.Message as message
 use Rattle.cd_frames.specs.Message.{Message}
 use Rattle.cd_status.specs.Queue.{Waits, next_due}
@@ -17,19 +16,18 @@ use Rattle.cd_status.specs.Status.{Status, mark}
 use Rattle.cd_status.specs.StatusLaw.{status_says}
 use Rattle.cd_legal.specs.Legal.{allowed, is_legal}
 use Rattle.cd_legal.specs.OpeningsLaw as openings
-use Rattle.cd_legal.specs.Steps.{Reading}
 use Rattle.cd_moves.specs.declared.session.Phase.{Phase}
-use Rattle.cd_moves.specs.declared.session.Phase.TheVariants.{Gone, Greet, Await, Ask, Fresh, Ready, Offer, Send, Take}
-use Rattle.cd_moves.specs.Closing.{key_under_way, trouble_for, close, trouble}
-use Rattle.cd_moves.specs.Node.{Config, Desk, Sessions, Node, Deed, Keep, Touch, AskSize, AskBytes, Begin, Go, Answers, did, does, recorded}
-use Rattle.cd_moves.specs.Rows.{most_parts, first_part, row, row_accept, row_choose, row_end, row_trouble, row_chosen, call, connect, busy}
+use Rattle.cd_moves.specs.declared.session.Phase.TheVariants.{Take}
+use Rattle.cd_moves.specs.Closing.{key_under_way, trouble_for}
+use Rattle.cd_moves.specs.Node.{Config, Desk, Sessions, Node, Deed, Keep, Touch, AskSize, AskBytes, Begin, Go, Answers, does, recorded}
+use Rattle.cd_moves.specs.Rows.{row_choose, row_trouble, row_chosen, call, busy}
 use Rattle.cd_moves.specs.RowsLaw.{same_config}
-use Rattle.cd_world.specs.World.{At, A, B, across, Note, Half, World, seen_from, readied, is_gone, at_session, world_did, world_does, Happening, Choice, Call, Frame, End, Task, nothing, opens, with_session, called, answers_now, came, ended, task_of, task, AllTold, ToldFor, Told, world_after, world_within, deeds_left, Cut, Unchanged, Begun, cut_off, IsCutOff, with_shelf, world_faulted, down, world_stopped, no_sessions, marked, world_started, world_lost, world_written, submission_of, world_submitted, Event, Does, Fails, Stops, Starts, Loses, Writes, Later, Submits, later, happens, IsPossible, after, ArePossible, IsNew, IsFirst}
-use Rattle.cd_world.specs.Holds.{journal_of, Agrees, AreSources}
-use Rattle.cd_world.specs.FrontsLaw.{IsFront, front_take}
-use Rattle.cd_world.specs.GrownLaw.{does_node, BothGrown, BothSound, within_grown, whole_grown, trouble_grown, legal_more, happens_grown, first_sound}
+use Rattle.cd_world.specs.World.{At, A, B, across, Note, Half, World, seen_from, is_gone, at_session, world_did, world_does, Happening, Choice, Call, Frame, End, Task, nothing, opens, with_session, called, answers_now, came, ended, task_of, task, ToldFor, Told, world_after, world_within, deeds_left, Cut, Unchanged, Begun, cut_off, IsCutOff, with_shelf, world_faulted, down, world_stopped, no_sessions, marked, world_started, world_lost, world_written, submission_of, world_submitted, Event, Does, Fails, Stops, Starts, Loses, Writes, Later, Submits, later, happens, IsPossible, after, ArePossible, IsNew, IsFirst}
+use Rattle.cd_world.specs.Holds.{journal_of, AreSources}
+use Rattle.cd_world.specs.FrontsLaw.{front_take}
+use Rattle.cd_world.specs.GrownLaw.{does_node, BothGrown, BothSound, within_grown, whole_grown, trouble_grown, happens_grown, first_sound}
 use Rattle.cd_world.specs.AgreedLaw.{fresh_first}
-use Rattle.cd_world.specs.PiecesLaw.{speaks, speaking, on_way, OfOpen, Silent, Calm, Known, Took, HeardTrue, GoesOn, AllGood, row_good, choose_good, close_good, told_abort, still_takes}
+use Rattle.cd_world.specs.PiecesLaw.{speaks, speaking, on_way, OfOpen, Silent, Took, HeardTrue, GoesOn, AllGood, row_good, choose_good, close_good, told_abort, still_takes}
 use Rattle.cd_world.specs.SourcesLaw.{TookAt, HeardAt, AllHeardAt, Sourced, BothSourced, go_tokens, heard_take, speaking_take, way_at, keep_sourced, does_sourced}
 
 -- The deeds behind a first part.

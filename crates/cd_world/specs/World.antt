@@ -1,5 +1,5 @@
 -- Two nodes, what is on the way between them, and all that may happen to them.
-use Rattle.std.specs.Prelude.{◌≡◌, ℕ, zero, suc, ◌+◌, ◌-◌, List, [], ◌∷◌, ◌++◌, length, take, drop, max, Bool, true, false, not, ◌&&◌, ◌==◌, Option, Some, None, option_map, if◌then◌else◌}
+use Rattle.std.specs.Prelude.{◌≡◌, ℕ, zero, suc, ◌+◌, ◌-◌, List, [], ◌∷◌, ◌++◌, length, take, drop, Bool, true, false, ◌&&◌, ◌==◌, Option, Some, None, option_map, if◌then◌else◌}
 use Rattle.cd_outside.specs.Content.{overwritten}
 use Rattle.cd_outside.specs.Disposition.{landed, dropped}
 use Rattle.cd_outside.specs.Shelf as shelves

@@ -1,4 +1,7 @@
-ghost use Rattle.std.specs.Prelude.{List, ◌++◌};
+ghost use Rattle.std.specs.Prelude.{◌≡◌, ℕ, ◌+◌, ◌≤◌, List, ◌++◌, length, take, Option};
+ghost use Rattle.cd_outside.specs.Content.{resized, overwritten};
+ghost use Rattle.cd_outside.specs.Shelf.{FileDoubt, FileChange, IsFileImage, settled_file, file_after, file_doubt_within};
+ghost use Rattle.cd_world.specs.Fronts.{BeginsWith, IsGuarded, KeepsFront};
 ghost use Rattle.cd_world.specs.Holds.{AreLegal, Extend, HaveResults, HaveLanded, AreSources};
 ghost use Rattle.cd_world.specs.World.{World, Event, IsFirst, ArePossible, after};
 
@@ -16,4 +19,19 @@ pub fn law_of_events()
     ensures results { (w : World) (events : List Event) → IsFirst w → ArePossible w events → HaveResults (after w events) }
     ensures landings { (w : World) (events : List Event) → IsFirst w → ArePossible w events → HaveLanded (after w events) }
     ensures sources { (w : World) (events : List Event) → IsFirst w → ArePossible w events → AreSources (after w events).notes }
+{}
+
+/// A front of a file that was synced is guarded: every file that a crash may leave begins with it, within and behind
+/// every change that begins behind the front, and so does the file itself. Where a file begins with what is kept of the
+/// old one and with what came, a piece that is written behind them is there and what came is longer by it; and cut to
+/// its length the file is exactly what is kept and all that came.
+pub fn law_of_fronts()
+    ensures image { (front : List ℕ) (doubt : FileDoubt) (image : Option (List ℕ)) → IsGuarded front doubt → IsFileImage doubt image → BeginsWith front image }
+    ensures synced { (front : List ℕ) (file : Option (List ℕ)) → BeginsWith front file → IsGuarded front (settled_file file) }
+    ensures file { (front : List ℕ) (file : Option (List ℕ)) → BeginsWith front file → (change : FileChange) → KeepsFront (length front) change → BeginsWith front (file_after change file) }
+    ensures within { (front : List ℕ) (file : Option (List ℕ)) → BeginsWith front file → (change : FileChange) (doubt : FileDoubt)
+        → KeepsFront (length front) change → IsGuarded front doubt → IsGuarded front (file_doubt_within change file doubt) }
+    ensures written { (kept got piece bytes : List ℕ) (came : ℕ) → came ≤ length got → take (length (kept ++ take came got)) bytes ≡ kept ++ take came got
+        → take (length (kept ++ take (came + length piece) (overwritten came piece got))) (overwritten (length kept + came) piece bytes) ≡ kept ++ take (came + length piece) (overwritten came piece got) }
+    ensures landed { (kept got bytes : List ℕ) → take (length (kept ++ got)) bytes ≡ kept ++ got → resized (length kept + length got) bytes ≡ kept ++ got }
 {}

@@ -2,5 +2,7 @@
 #![tactic(auto)]
 
 mod law;
+mod worked;
 
-pub use law::law_of_events;
+pub use law::{law_of_events, law_of_fronts};
+pub use worked::worked_push;

@@ -1,0 +1,17 @@
+//! A worked list of events, so that the law speaks of something.
+ghost use Rattle.std.specs.Prelude.{◌≡◌, [], ◌∷◌, codes, Some};
+ghost use Rattle.cd_status.specs.Processes.{ended};
+ghost use Rattle.cd_moves.specs.Worked.{worked_key};
+ghost use Rattle.cd_world.specs.Holds.{landings};
+ghost use Rattle.cd_world.specs.Worked.{bytes, worked_world, worked_events};
+ghost use Rattle.cd_world.specs.World.{A, B, IsFirst, ArePossible, after};
+
+/// In a first world a Process is submitted that pushes a file of three bytes, and then all that waits is handled. These
+/// events are possible; the step ends with 0, its landing is noted once, and the destination has the bytes.
+pub fn worked_push()
+    ensures first { IsFirst worked_world }
+    ensures possible { ArePossible worked_world worked_events }
+    ensures ended_is { ended (after worked_world worked_events).a.node.desk.journal 1 ≡ (0, 0) ∷ [] }
+    ensures landed { landings B worked_key (after worked_world worked_events).notes ≡ bytes ∷ [] }
+    ensures file { (after worked_world worked_events).b.node.shelf.seen (codes "b") ≡ Some bytes }
+{}
