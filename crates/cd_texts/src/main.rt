@@ -2,6 +2,8 @@
 //! and its output has of each the canonical text, or its first fault with its place, and a line `%%`.
 #![tactic(auto)]
 
+ghost use Rattle.std.specs.Prelude.{◌≤◌, length};
+
 use anyhow::Result;
 use cd_ast::print;
 use cd_parser::{ParseFault, parse};
@@ -13,7 +15,9 @@ use std::io;
 const BETWEEN: &[u8] = b"\n%%\n";
 
 // Where the next text ends, and where the one behind it begins.
-fn next_end(texts: &[u8], from: usize) -> (usize, usize) {
+fn next_end(texts: &[u8], from: usize) -> (usize, usize)
+    ensures { result.0 ≤ length texts.now }
+{
     for at in from..texts.len() {
         if texts[at..].starts_with(BETWEEN) {
             return (at, at.saturating_add(BETWEEN.len()));
