@@ -1,5 +1,5 @@
 -- The codes of steps that ended.
-use Rattle.std.proofs.Common.{◌≡◌, ℕ, eqb, cond, true, false, List, [], ◌∷◌, ◌++◌, Option, Some, refl, sym, ap, ◌∙◌}
+use Rattle.std.proofs.Common.{◌≡◌, ℕ, eqb, cond, true, false, List, [], ◌∷◌, ◌++◌, Option, Some, refl, ap, ◌∙◌}
 use Rattle.cd_ast.specs.Walk.{code_at}
 use Rattle.cd_book.specs.Codes.{or_code}
 

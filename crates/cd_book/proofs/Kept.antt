@@ -1,7 +1,7 @@
 -- The Processes that a book keeps.
-use Rattle.std.proofs.Common.{◌≡◌, ◌≢◌, ℕ, zero, suc, ◌+◌, ◌-◌, ◌<◌, ◌≤◌, Bool, true, false, ◌&&◌, eqb, leb, ltb, cond, inl, inr, List, [], ◌∷◌, ◌++◌, length, reverse, Option, Some, None, refl, sym, ap, ◌∙◌, arith, length-append}
+use Rattle.std.proofs.Common.{◌≡◌, ℕ, zero, suc, ◌+◌, ◌-◌, ◌<◌, ◌≤◌, Bool, true, ◌&&◌, eqb, leb, ltb, cond, inl, inr, List, [], ◌∷◌, ◌++◌, length, Option, Some, None, refl, sym, ap, ◌∙◌, arith, length-append}
 use Rattle.std.specs.Prelude.{slice_get}
-use Rattle.std.proofs.lemmas.Bool.{cases_Bool, and_parts, and_from, eqb-true, eqb-false, ltb-true, ltb-false, cond-true, cond-false}
+use Rattle.std.proofs.lemmas.Bool.{cases_Bool, and_parts, and_from, eqb-true, eqb-false, ltb-true, ltb-false}
 use Rattle.std.proofs.lemmas.List.{append-nil}
 use Rattle.cd_types.specs.Format.{◌>>=◌}
 use Rattle.cd_types.specs.declared.card.Filed.{Filed}
@@ -9,7 +9,7 @@ use Rattle.cd_types.specs.declared.key.Key.{Key}
 use Rattle.cd_entries.specs.declared.entry.Entry.{Entry}
 use Rattle.cd_entries.specs.declared.entry.Entry.TheVariants as entry
 use Rattle.cd_ast.specs.declared.process.Process.{Process}
-use Rattle.cd_status.specs.Processes.{Submission, submission, submitted, live_numbers}
+use Rattle.cd_status.specs.Processes.{submission, submitted, live_numbers}
 use Rattle.cd_legal.specs.Steps.{Reading, process_of}
 use Rattle.cd_legal.specs.Legal.{is_filed, is_new_origin, allowed, is_legal}
 use Rattle.cd_legal.specs.LegalLaw.{legal_parts, follows}

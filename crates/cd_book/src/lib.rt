@@ -16,6 +16,8 @@ mod texts;
 mod walk;
 
 pub use book::Book;
+pub use process::moment_of;
+pub use queue::queue_at;
 pub use status::Status;
 pub use submission::Submission;
 pub use texts::Texts;

@@ -157,7 +157,8 @@ pub(crate) fn is_live(entries: &[Entry], number: ProcNo) -> bool
     found
 }
 
-fn moment_of(entry: &Entry) -> Option<Moment>
+/// The moment of an entry.
+pub fn moment_of(entry: &Entry) -> Option<Moment>
     ensures { result ≡ moment_of entry.now }
 {
     match entry {

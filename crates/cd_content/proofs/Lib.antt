@@ -13,5 +13,6 @@ mod Replay
 mod Rolled
 mod Shelved
 mod Slots
+mod Sorted
 pub mod Tidied
 mod Written

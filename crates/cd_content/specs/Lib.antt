@@ -24,4 +24,5 @@ pub mod Shelves
 pub mod Slot
 pub mod Sound
 pub mod Steps
+pub mod There
 pub mod Tied

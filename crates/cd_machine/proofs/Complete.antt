@@ -1,18 +1,14 @@
 -- What the grammar allows the machine reads: to the end, or up to a token whose range isn't asked for.
-use Rattle.std.proofs.Common.{◌≡◌, if◌then◌else◌, ℕ, List, [], ◌∷◌, Bool, true, false, ◌&&◌, ◌==◌, is_some, Option, Some, None, Result, Ok, Err, refl, ap, sym, ◌∙◌}
-use Rattle.std.specs.Option.{option_map}
-use Rattle.cd_types.specs.Label.{is_label}
+use Rattle.std.proofs.Common.{◌≡◌, if◌then◌else◌, ℕ, List, [], ◌∷◌, Bool, true, false, ◌&&◌, ◌==◌, is_some, Option, Some, None, Result, Ok, Err, refl, ap, ◌∙◌}
 use Rattle.cd_types.specs.Symbols.{upper_case}
 use Rattle.cd_types.specs.declared.choices.Relation.{Relation}
 use Rattle.cd_types.specs.declared.choices.Side.{Side}
-use Rattle.cd_types.specs.declared.choices.Side.TheVariants as side
 use Rattle.cd_types.specs.declared.start.Day.{Day}
 use Rattle.cd_types.specs.declared.start.Day.TheVariants.{Today}
 use Rattle.cd_ast.specs.declared.fault.FaultName.{FaultName}
 use Rattle.cd_ast.specs.declared.process.What.TheVariants as what
 use Rattle.cd_grammar.specs.declared.token.Key.{Key}
 use Rattle.cd_grammar.specs.declared.token.Key.TheVariants as key
-use Rattle.cd_grammar.specs.declared.token.Sign.{Sign}
 use Rattle.cd_grammar.specs.declared.token.Sign.TheVariants as sign
 use Rattle.cd_grammar.specs.declared.token.Token.{Token}
 use Rattle.cd_grammar.specs.declared.token.Token.TheVariants.{Word, Quoted, Mark}
@@ -33,18 +29,17 @@ use Rattle.cd_grammar.specs.Answers.{Answer, Strictness, taken}
 use Rattle.cd_grammar.specs.Tokens.{place_of}
 use Rattle.cd_grammar.specs.Words.{key_of}
 use Rattle.cd_grammar.specs.Values.{label_in, front_label_in, symbol_in, number_in, is_own}
-use Rattle.cd_grammar.specs.Starts.{day_in, clock_in, half_in, plain_time, half_time, named_time, time_in, time_by}
+use Rattle.cd_grammar.specs.Starts.{day_in, clock_in, half_in, plain_time, half_time, time_in, time_by}
 use Rattle.cd_grammar.specs.Given.{nothing, head_slot, submit_slot, from_slot, to_slot, task_slot, job_slot, copy_slot, has, with_value, with_list, takes_list, takes_parentheses, side_of}
 use Rattle.cd_grammar.specs.Reading.{Reading, named, stored, ended, given_of, with_given, slot_of, end_slot, work_slot, takes_side, takes_symbols, bare_copy, with_name, end_of, with_end, has_room, has_depth}
 use Rattle.cd_grammar.specs.Grammar.{Place, Start, Rest, started, begun_at, opening, before_it, relation_of, text_of, work_of, end_in}
 use Rattle.cd_grammar.specs.Grammar as g
-use Rattle.cd_grammar.specs.Later.{Found}
 use Rattle.cd_machine.specs.Placed.{IsKeyed}
 use Rattle.cd_machine.specs.State.{State, At, Labelled, Named, Value, Parenthesized, Closing, Values, Symbol, SymbolValue, Starting, Dated, Timing, Timed, GroupOpen, Compress, Prime, PrimeValue, Primed, Extended, Extending, Pairs, PairNamed, PairValue, Running, IfOpen, IfLabel, IfRelation, IfNumber, IfClose, IfThen, GotoLabel, Ended, Closed}
-use Rattle.cd_machine.specs.Machine.{Turn, Move, kept, with_place, roomy, on, is_open, is_close, is_equals, behind_open, behind_close, behind_equals, behind_word, unset, free, sided, end_state, compress_if, compress_by, copy_state, bare_state, else_turn, eif_turn, if_turn, verb_turn, label_move, statement_turn, ended_turn, bare_turn, is_symbolic, symbol_turn, slot_turn, is_opener, is_verb, word_by, word_turn, mark_move, at_turn, named_label, named_turn, is_start, open_move, plain_value, value_move, values_move, symbol_value_turn, wanted_at, starting_move, dated_move, time_move, timing_move, half_move, timed_move, compress_turn, primed_turn, extended_turn, pairs_move, running_move, if_label_move, if_number_move, if_then_turn, goto_turn, labelled_turn, ended_move, next, at_end}
+use Rattle.cd_machine.specs.Machine.{kept, with_place, unset, free, compress_by, bare_state, verb_turn, label_move, statement_turn, ended_turn, bare_turn, is_symbolic, symbol_turn, slot_turn, is_opener, is_verb, word_turn, mark_move, open_move, value_move, time_move, next}
 use Rattle.cd_machine.proofs.Stages.{Stage, Fresh, Titled, Reads, staged, step_of, ending}
 use Rattle.cd_machine.proofs.Stages as stages
-use Rattle.cd_machine.proofs.Keys.{slot_opener, verb_opener, statement_verb, own_opener, own_statement, own_bare, front_own, label_own}
+use Rattle.cd_machine.proofs.Keys.{slot_opener, verb_opener, statement_verb, own_opener, own_statement, own_bare, front_own}
 use Rattle.cd_machine.proofs.Words.{symbolic_key, symbolic_label, formless, prime_label}
 
 abbrev pub OnStage : stages.Step → (Stage → Type 0) → Type 0

@@ -1,29 +1,26 @@
 -- The fault that the machine answers is the first that a text has.
-use Rattle.std.proofs.Common.{◌≡◌, ℕ, suc, ◌≤◌, ◌<◌, nat_lt, List, [], ◌∷◌, ◌++◌, append_assoc, Bool, true, false, Option, Some, None, Result, Ok, Err, refl, ap, sym, subst, ◌∙◌, ◌⊎◌, inl, inr, arith}
+use Rattle.std.proofs.Common.{◌≡◌, ℕ, suc, ◌≤◌, nat_lt, List, [], ◌∷◌, ◌++◌, append_assoc, Bool, true, false, Result, Ok, Err, refl, ap, sym, subst, ◌∙◌, ◌⊎◌, inl, inr, arith}
 use Rattle.cd_ast.specs.declared.fault.FaultName.{FaultName}
 use Rattle.cd_ast.specs.declared.fault.FaultName.TheVariants.{Unexpected, TooMany, Range}
-use Rattle.cd_grammar.specs.declared.token.Key.{Key}
 use Rattle.cd_grammar.specs.declared.token.Key.TheVariants as key
 use Rattle.cd_grammar.specs.declared.token.Token.{Token}
 use Rattle.cd_grammar.specs.declared.token.Token.TheVariants.{Word, Quoted, Mark}
-use Rattle.cd_grammar.specs.declared.step.Step.TheVariants as step
 use Rattle.cd_grammar.specs.Answers.{Strictness, strict, uncounted, loose_from, taken}
 use Rattle.cd_grammar.specs.Tokens.{place_of}
 use Rattle.cd_grammar.specs.Values.{label_in}
-use Rattle.cd_grammar.specs.Given.{nothing}
-use Rattle.cd_grammar.specs.Reading.{Reading, named}
+use Rattle.cd_grammar.specs.Reading.{Reading}
 use Rattle.cd_grammar.specs.Later.{Found}
 use Rattle.cd_grammar.specs.Faults.{IsRead, CanGoOn, IsBadToken, unexpected, too_many, range, Leaves, at_token, at_end}
 use Rattle.cd_machine.specs.Placed.{IsKeyed, AreKeyed, Placed}
 use Rattle.cd_machine.specs.Reached.{Reached, begun, one_more}
-use Rattle.cd_machine.specs.State.{State, At, Named, Ended, Closed}
+use Rattle.cd_machine.specs.State.{State, Named, Ended, Closed}
 use Rattle.cd_machine.specs.Machine.{Turn, whole}
 use Rattle.cd_machine.specs.Machine as machine
 use Rattle.cd_machine.proofs.Sound.{whole_sound}
 use Rattle.cd_machine.proofs.Stages.{Stage, Fresh, Titled, Reads, staged, step_of, ending, then_step, walk, walk_more, ended_at, whole_walk}
 use Rattle.cd_machine.proofs.Stages as stages
-use Rattle.cd_machine.proofs.Complete.{OnStage, Passes, Pass, complete}
-use Rattle.cd_machine.proofs.Walks.{Asks, Over, passes_over, passes_all, read_whole}
+use Rattle.cd_machine.proofs.Complete.{OnStage, Passes, complete}
+use Rattle.cd_machine.proofs.Walks.{Asks, Over, passes_over, read_whole}
 use Rattle.cd_machine.proofs.Looser.{Looser, same, unexpected_too, range_too, in_range, easier, IsAsked, next_looser}
 use Rattle.cd_machine.proofs.Looser as looser
 use Rattle.cd_machine.proofs.Good.{Good, Well, next_well}

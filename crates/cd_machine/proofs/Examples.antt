@@ -1,5 +1,5 @@
 -- Where the texts of the examples leave the grammar.
-use Rattle.std.proofs.Common.{◌≡◌, ℕ, List, [], ◌∷◌, length, Result, Ok, Err, refl}
+use Rattle.std.proofs.Common.{◌≡◌, ℕ, List, length, Result, Err, refl}
 use Rattle.std.specs.Prelude.{codes}
 use Rattle.cd_ast.specs.declared.fault.FaultName.TheVariants.{Unexpected, Range}
 use Rattle.cd_ast.specs.Bytes.{is_blank, is_quote, is_sign_byte, is_word_byte, is_double_sign, opens_comment, closes_comment}

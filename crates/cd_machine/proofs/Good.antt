@@ -1,9 +1,8 @@
 -- What holds wherever the machine gets to: the ends of a COPY that were read name their files, a label stands only where a
 -- statement may begin, and a word before a list or a parenthesis takes it.
-use Rattle.std.proofs.Common.{◌≡◌, if◌then◌else◌, ℕ, List, [], ◌∷◌, Bool, true, false, ◌&&◌, is_some, Option, Some, None, Result, Ok, Err, refl, ap, sym, ◌∙◌}
+use Rattle.std.proofs.Common.{◌≡◌, if◌then◌else◌, ℕ, List, [], ◌∷◌, Bool, true, false, ◌&&◌, is_some, Option, Some, None, Result, Ok, Err, refl, ◌∙◌}
 use Rattle.std.specs.Option.{option_map}
 use Rattle.cd_types.specs.declared.choices.Relation.{Relation}
-use Rattle.cd_types.specs.declared.choices.Side.{Side}
 use Rattle.cd_types.specs.declared.start.Day.{Day}
 use Rattle.cd_ast.specs.declared.fault.FaultName.{FaultName}
 use Rattle.cd_grammar.specs.declared.token.Key.{Key}
@@ -23,14 +22,13 @@ use Rattle.cd_grammar.specs.declared.step.Step.{Step}
 use Rattle.cd_grammar.specs.declared.step.Step.TheVariants as step
 use Rattle.cd_grammar.specs.Answers.{Strictness, taken}
 use Rattle.cd_grammar.specs.Tokens.{place_of}
-use Rattle.cd_grammar.specs.Values.{label_in, front_label_in, symbol_in, number_in}
+use Rattle.cd_grammar.specs.Values.{label_in, symbol_in, number_in}
 use Rattle.cd_grammar.specs.Starts.{day_in, clock_in, half_in, plain_time, half_time, named_time}
 use Rattle.cd_grammar.specs.Given.{nothing, with_value, takes_list, takes_parentheses, side_of}
-use Rattle.cd_grammar.specs.Reading.{Reading, stored, ended, given_of, with_given, slot_of, takes_symbols, bare_copy, end_of, with_end, has_room, has_depth}
+use Rattle.cd_grammar.specs.Reading.{Reading, ended, given_of, with_given, slot_of, takes_symbols, end_of, with_end, has_room, has_depth}
 use Rattle.cd_grammar.specs.Grammar.{begun_at, relation_of, work_of, end_in}
-use Rattle.cd_grammar.specs.Later.{Found}
 use Rattle.cd_machine.specs.State.{State, At, Labelled, Named, Value, Parenthesized, Closing, Values, Symbol, SymbolValue, Starting, Dated, Timing, Timed, GroupOpen, Compress, Prime, PrimeValue, Primed, Extended, Extending, Pairs, PairNamed, PairValue, Running, IfOpen, IfLabel, IfRelation, IfNumber, IfClose, IfThen, GotoLabel, Ended, Closed}
-use Rattle.cd_machine.specs.Machine.{Turn, Move, kept, with_place, roomy, on, is_open, is_close, is_equals, behind_open, behind_close, behind_equals, behind_word, free, sided, end_state, compress_if, compress_by, copy_state, bare_state, else_turn, eif_turn, if_turn, verb_turn, label_move, statement_turn, ended_turn, bare_turn, is_symbolic, symbol_turn, slot_turn, is_opener, word_by, word_turn, mark_move, at_turn, named_label, named_turn, is_start, open_move, plain_value, value_move, values_move, symbol_value_turn, wanted_at, starting_move, dated_move, time_move, timing_move, half_move, timed_move, compress_turn, primed_turn, extended_turn, pairs_move, running_move, if_label_move, if_number_move, if_then_turn, goto_turn, labelled_turn, ended_move, next}
+use Rattle.cd_machine.specs.Machine.{Turn, kept, with_place, roomy, on, is_open, is_close, is_equals, behind_open, behind_close, behind_equals, behind_word, free, sided, end_state, compress_if, compress_by, copy_state, bare_state, else_turn, eif_turn, if_turn, verb_turn, label_move, statement_turn, ended_turn, bare_turn, is_symbolic, symbol_turn, slot_turn, is_opener, word_by, word_turn, mark_move, at_turn, named_label, named_turn, is_start, open_move, value_move, values_move, symbol_value_turn, wanted_at, starting_move, dated_move, time_move, timing_move, half_move, timed_move, compress_turn, primed_turn, extended_turn, pairs_move, running_move, if_label_move, if_number_move, if_then_turn, goto_turn, labelled_turn, ended_move, next}
 
 -- an end of a COPY that was read names a file
 abbrev pub IsFiled : Option Given → Type 0

@@ -1,12 +1,7 @@
 -- Which words may be what: the machine asks for one thing after the other, and the grammar for each alone.
-use Rattle.std.proofs.Common.{◌≡◌, if◌then◌else◌, ℕ, List, [], ◌∷◌, Bool, true, false, ◌&&◌, ◌==◌, is_some, Option, Some, None, Result, Ok, Err, refl, ap, sym, ◌∙◌}
-use Rattle.std.specs.Option.{option_map}
-use Rattle.cd_types.specs.declared.choices.Side.{Side}
-use Rattle.cd_ast.specs.declared.fault.FaultName.{FaultName}
-use Rattle.cd_ast.specs.declared.fault.FaultName.TheVariants.{Range}
+use Rattle.std.proofs.Common.{◌≡◌, if◌then◌else◌, ℕ, List, Bool, true, false, Some, None, Ok, refl}
 use Rattle.cd_grammar.specs.declared.token.Key.{Key}
 use Rattle.cd_grammar.specs.declared.token.Key.TheVariants as key
-use Rattle.cd_grammar.specs.declared.given.Given.{Given}
 use Rattle.cd_grammar.specs.declared.given.Slot.{Slot}
 use Rattle.cd_grammar.specs.declared.step.Begun.{Begun}
 use Rattle.cd_grammar.specs.declared.step.CopyGiven.{CopyGiven}
@@ -17,12 +12,11 @@ use Rattle.cd_grammar.specs.declared.step.End.TheVariants as ends
 use Rattle.cd_grammar.specs.declared.step.Step.{Step}
 use Rattle.cd_grammar.specs.declared.step.Step.TheVariants as step
 use Rattle.cd_grammar.specs.Answers.{Answer, Wrong, Strictness, taken}
-use Rattle.cd_grammar.specs.Values.{label_in, front_label_in, has_reference, is_own, symbol_in}
+use Rattle.cd_grammar.specs.Values.{label_in, front_label_in, has_reference, is_own}
 use Rattle.cd_grammar.specs.Given.{head_slot, copy_slot, from_slot, to_slot, task_slot, job_slot, submit_slot, side_of}
-use Rattle.cd_grammar.specs.Reading.{Reading, slot_of, end_slot, work_slot, takes_symbols}
+use Rattle.cd_grammar.specs.Reading.{Reading, slot_of, end_slot, work_slot}
 use Rattle.cd_grammar.specs.Grammar.{end_in}
-use Rattle.cd_machine.specs.State.{State}
-use Rattle.cd_machine.specs.Machine.{Turn, is_opener, is_verb, verb_turn, statement_turn, label_move, bare_state, copy_state, end_state, compress_by, sided}
+use Rattle.cd_machine.specs.Machine.{is_opener, is_verb, verb_turn, statement_turn, label_move, bare_state, compress_by}
 
 -- a word with which a statement begins sets nothing
 head_opener : (k : Key) (set : Slot) → head_slot k ≡ Some set → is_opener k ≡ false

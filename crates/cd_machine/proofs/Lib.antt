@@ -13,3 +13,7 @@ pub mod Texts
 pub mod Later
 pub mod Whole
 pub mod Examples
+pub mod Printed
+pub mod Ranges
+pub mod Jumps
+pub mod Down

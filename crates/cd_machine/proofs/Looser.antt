@@ -1,11 +1,10 @@
 -- What the machine does with a token where ranges are asked for and statements counted, and where some ranges aren't and
 -- nothing is counted.
-use Rattle.std.proofs.Common.{◌≡◌, if◌then◌else◌, ℕ, nat_lt, length, List, [], ◌∷◌, Bool, true, false, not, ◌&&◌, ◌||◌, is_some, Option, Some, None, Result, Ok, Err, refl, ap, sym, ◌∙◌}
+use Rattle.std.proofs.Common.{◌≡◌, if◌then◌else◌, ℕ, List, [], ◌∷◌, Bool, true, false, not, ◌&&◌, ◌||◌, is_some, Option, Some, None, Result, Ok, Err, refl}
 use Rattle.cd_types.specs.declared.choices.Relation.{Relation}
 use Rattle.cd_types.specs.declared.start.Day.{Day}
 use Rattle.cd_ast.specs.declared.fault.FaultName.{FaultName}
 use Rattle.cd_ast.specs.declared.fault.FaultName.TheVariants.{Unexpected, TooMany, Range}
-use Rattle.cd_ast.specs.declared.process.What.TheVariants as what
 use Rattle.cd_grammar.specs.declared.token.Key.{Key}
 use Rattle.cd_grammar.specs.declared.token.Key.TheVariants as key
 use Rattle.cd_grammar.specs.declared.token.Sign.{Sign}
@@ -14,7 +13,6 @@ use Rattle.cd_grammar.specs.declared.token.Token.{Token}
 use Rattle.cd_grammar.specs.declared.token.Token.TheVariants.{Word, Quoted, Mark}
 use Rattle.cd_grammar.specs.declared.given.Given.{Given}
 use Rattle.cd_grammar.specs.declared.given.Slot.{Slot}
-use Rattle.cd_grammar.specs.declared.mark.Sketch.TheVariants as sketch
 use Rattle.cd_grammar.specs.declared.step.Begun.{Begun}
 use Rattle.cd_grammar.specs.declared.step.Clock.{Clock}
 use Rattle.cd_grammar.specs.declared.step.CopyGiven.{CopyGiven}
@@ -25,11 +23,11 @@ use Rattle.cd_grammar.specs.Tokens.{place_of}
 use Rattle.cd_grammar.specs.Values.{label_in, front_label_in, symbol_in, number_in}
 use Rattle.cd_grammar.specs.Starts.{clock_in, half_in, plain_time, half_time, named_time}
 use Rattle.cd_grammar.specs.Given.{nothing, with_value, takes_list, takes_parentheses}
-use Rattle.cd_grammar.specs.Reading.{Reading, named, stored, ended, given_of, with_given, slot_of, takes_symbols, bare_copy, has_room, has_depth}
-use Rattle.cd_grammar.specs.Grammar.{started, begun_at, relation_of, work_of}
+use Rattle.cd_grammar.specs.Reading.{Reading, ended, given_of, slot_of, takes_symbols, has_room, has_depth}
+use Rattle.cd_grammar.specs.Grammar.{begun_at, relation_of}
 use Rattle.cd_grammar.specs.Later.{Found}
 use Rattle.cd_machine.specs.State.{State, At, Labelled, Named, Value, Parenthesized, Closing, Values, Symbol, SymbolValue, Starting, Dated, Timing, Timed, GroupOpen, Compress, Prime, PrimeValue, Primed, Extended, Extending, Pairs, PairNamed, PairValue, Running, IfOpen, IfLabel, IfRelation, IfNumber, IfClose, IfThen, GotoLabel, Ended, Closed}
-use Rattle.cd_machine.specs.Machine.{Turn, Move, kept, with_place, unexpected, roomy, on, is_open, is_close, is_equals, behind_open, behind_close, behind_equals, behind_word, free, bare_state, else_turn, eif_turn, if_turn, verb_turn, label_move, statement_turn, ended_turn, bare_turn, is_symbolic, symbol_turn, slot_turn, is_opener, word_by, word_turn, mark_move, at_turn, named_label, named_turn, is_start, open_move, plain_value, value_move, values_move, symbol_value_turn, wanted_at, starting_move, dated_move, time_move, timing_move, half_move, timed_move, compress_turn, primed_turn, extended_turn, pairs_move, running_move, if_label_move, if_number_move, if_then_turn, goto_turn, labelled_turn, ended_move, next}
+use Rattle.cd_machine.specs.Machine.{Turn, Move, kept, with_place, roomy, on, is_open, is_close, is_equals, behind_open, behind_close, behind_equals, behind_word, free, bare_state, else_turn, eif_turn, if_turn, verb_turn, label_move, statement_turn, ended_turn, bare_turn, is_symbolic, symbol_turn, slot_turn, is_opener, word_by, word_turn, mark_move, at_turn, named_label, named_turn, is_start, open_move, value_move, values_move, symbol_value_turn, wanted_at, starting_move, dated_move, time_move, timing_move, half_move, timed_move, compress_turn, primed_turn, extended_turn, pairs_move, running_move, if_label_move, if_number_move, if_then_turn, goto_turn, labelled_turn, ended_move, next}
 
 -- some ranges are asked for, and nothing is counted
 abbrev pub easier : (ℕ → Bool) → Strictness

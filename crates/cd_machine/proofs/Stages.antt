@@ -1,9 +1,7 @@
 -- Where reading stands in a whole text, its first two words included, and how it goes over tokens.
-use Rattle.std.proofs.Common.{◌≡◌, ℕ, List, [], ◌∷◌, ◌++◌, Bool, true, false, Option, Some, None, Result, Ok, Err, refl, ap, sym, ◌∙◌}
+use Rattle.std.proofs.Common.{◌≡◌, ℕ, List, [], ◌∷◌, ◌++◌, Result, Ok, Err, refl}
 use Rattle.cd_ast.specs.declared.fault.FaultName.{FaultName}
-use Rattle.cd_grammar.specs.declared.token.Key.{Key}
 use Rattle.cd_grammar.specs.declared.token.Key.TheVariants as key
-use Rattle.cd_grammar.specs.declared.token.Sign.{Sign}
 use Rattle.cd_grammar.specs.declared.token.Token.{Token}
 use Rattle.cd_grammar.specs.declared.token.Token.TheVariants.{Word, Quoted, Mark}
 use Rattle.cd_grammar.specs.declared.step.Step.TheVariants as step

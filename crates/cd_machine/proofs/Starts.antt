@@ -1,8 +1,7 @@
 -- The word STARTT alone sets a start, and in the PROCESS statement alone.
-use Rattle.std.proofs.Common.{◌≡◌, Option, Some, None, refl}
+use Rattle.std.proofs.Common.{◌≡◌, Some, refl}
 use Rattle.cd_grammar.specs.declared.token.Key.{Key}
 use Rattle.cd_grammar.specs.declared.token.Key.TheVariants as key
-use Rattle.cd_grammar.specs.declared.given.Slot.{Slot}
 use Rattle.cd_grammar.specs.declared.given.Slot.TheVariants as slot
 use Rattle.cd_grammar.specs.declared.step.Work.{Work}
 use Rattle.cd_grammar.specs.declared.step.Work.TheVariants as work

@@ -8,7 +8,6 @@ use Rattle.cd_ast.specs.Bytes.{is_blank, is_quote, is_sign_byte, is_double_sign,
 use Rattle.cd_ast.specs.Pieces.{Piece, run_len, ends_line, is_line_end, comment_at, quote_at, sign_at, word_at, piece_at, pieces_after}
 use Rattle.cd_ast.specs.Tokens.{Span, is_token, spans_from, spans_of}
 use Rattle.cd_grammar.specs.declared.token.Token.{Token}
-use Rattle.cd_grammar.specs.declared.token.Token.TheVariants.{Word, Quoted, Mark}
 use Rattle.cd_grammar.specs.Tokens.{Side, Out, seen_token, token_of, place_of, behind, is_blank_comma, without_commas, tokens_of}
 use Rattle.cd_machine.specs.Placed.{IsKeyed, Placed}
 

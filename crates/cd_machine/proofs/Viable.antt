@@ -2,13 +2,12 @@
 use Rattle.std.specs.Prelude.{slice_index}
 use Rattle.std.proofs.lemmas.Str.{is_utf8-from_IsUtf8, IsUtf8-from_ascii}
 use Rattle.cd_types.specs.FileName.{is_file_name}
-use Rattle.std.proofs.Common.{◌≡◌, ◌<◌, zero, suc, arith, rules, ℕ, codes, List, [], ◌∷◌, Bool, true, false, is_some, Option, Some, None, Result, Ok, Err, refl, ap, sym, ◌∙◌}
+use Rattle.std.proofs.Common.{◌≡◌, ◌<◌, zero, suc, arith, rules, ℕ, codes, List, [], ◌∷◌, Bool, true, false, is_some, Option, Some, None, Ok, refl, ap}
 use Rattle.cd_types.specs.declared.choices.Relation.{Relation}
 use Rattle.cd_types.specs.declared.choices.Relation.TheVariants as relation
 use Rattle.cd_types.specs.declared.start.Day.{Day}
 use Rattle.cd_types.specs.declared.start.Day.TheVariants.{Today}
 use Rattle.cd_ast.specs.declared.process.What.TheVariants as what
-use Rattle.cd_grammar.specs.declared.token.Key.{Key}
 use Rattle.cd_grammar.specs.declared.token.Key.TheVariants as key
 use Rattle.cd_grammar.specs.declared.token.Sign.TheVariants as sign
 use Rattle.cd_grammar.specs.declared.token.Token.{Token}
@@ -29,14 +28,14 @@ use Rattle.cd_grammar.specs.declared.step.Step.TheVariants as step
 use Rattle.cd_grammar.specs.Answers.{Strictness, taken}
 use Rattle.cd_grammar.specs.Tokens.{place_of}
 use Rattle.cd_grammar.specs.Words.{said_in}
-use Rattle.cd_grammar.specs.Values.{label_in, number_in, is_own, is_digits, number_of, node_in, file_in, hold_in, retain_in, restart_in, disp_in, is_share, interval_in, unit_of, is_item, are_items, between_colons, is_command}
-use Rattle.cd_grammar.specs.Starts.{clock_in, long_clock, are_two, named_time, time_in}
-use Rattle.cd_grammar.specs.Given.{nothing, has, with_word, with_quoted, with_value, takes_list, takes_parentheses, side_of, from_slot, to_slot, task_slot, job_slot, submit_slot}
-use Rattle.cd_grammar.specs.Reading.{Reading, named, stored, ended, copied, run, submitted, given_of, with_given, slot_of, end_slot, bare_copy, end_of, with_end, with_name, has_room}
+use Rattle.cd_grammar.specs.Values.{label_in, number_in, is_own, is_digits, number_of, node_in, file_in, hold_in, retain_in, restart_in, disp_in, is_share, interval_in, is_item, are_items, between_colons, is_command}
+use Rattle.cd_grammar.specs.Starts.{clock_in, long_clock, are_two, named_time}
+use Rattle.cd_grammar.specs.Given.{nothing, has, with_word, with_quoted, with_value, takes_parentheses, side_of, from_slot, to_slot, task_slot, job_slot, submit_slot}
+use Rattle.cd_grammar.specs.Reading.{Reading, named, stored, ended, copied, run, submitted, given_of, with_given, slot_of, end_slot, with_end, with_name, has_room}
 use Rattle.cd_types.specs.Symbols.{upper_case}
 use Rattle.cd_grammar.specs.Grammar.{started, begun_at, relation_of, work_of, end_in}
 use Rattle.cd_machine.specs.State.{State, At, Labelled, Named, Value, Parenthesized, Closing, Values, Symbol, SymbolValue, Starting, Dated, Timing, Timed, GroupOpen, Compress, Prime, PrimeValue, Primed, Extended, Extending, Pairs, PairNamed, PairValue, Running, IfOpen, IfLabel, IfRelation, IfNumber, IfClose, IfThen, GotoLabel, Ended, Closed}
-use Rattle.cd_machine.specs.Machine.{mark_move, next, open_move, value_move, verb_turn}
+use Rattle.cd_machine.specs.Machine.{next, open_move, value_move, verb_turn}
 use Rattle.cd_machine.proofs.Stages.{Stage, Fresh, Titled, Reads, step_of, walk, ended_at}
 use Rattle.cd_machine.proofs.Complete.{named_next, value_next, inner_next, time_next, group_next, group_end_next, run_group_end_next, pend_next, running_next, if_label_next, if_number_next, goto_next}
 use Rattle.cd_machine.proofs.Good.{IsFiled, GoodCopy, GoodStep, Good, given_good, end_good}

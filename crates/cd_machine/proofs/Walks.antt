@@ -1,5 +1,5 @@
 -- From what the grammar allows to runs of the machine.
-use Rattle.std.proofs.Common.{◌≡◌, ℕ, List, [], ◌∷◌, ◌++◌, Bool, true, false, Option, Some, None, Result, Ok, Err, refl, ap, sym, ◌∙◌}
+use Rattle.std.proofs.Common.{◌≡◌, ℕ, List, [], ◌∷◌, ◌++◌, true, Result, Ok, Err, refl, ◌∙◌}
 use Rattle.cd_grammar.specs.declared.token.Token.{Token}
 use Rattle.cd_grammar.specs.Answers.{Strictness, strict}
 use Rattle.cd_grammar.specs.Tokens.{place_of}
@@ -11,7 +11,7 @@ use Rattle.cd_machine.specs.State.{State, Ended, Closed}
 use Rattle.cd_machine.specs.Machine.{at_end, whole}
 use Rattle.cd_machine.proofs.Stages.{Stage, Fresh, Titled, Reads, step_of, ending, then_step, walk, ended_at, whole_walk}
 use Rattle.cd_machine.proofs.Stages as stages
-use Rattle.cd_machine.proofs.Complete.{OnStage, Passes, Pass, complete}
+use Rattle.cd_machine.proofs.Complete.{OnStage, Passes, complete}
 
 end_anywhere : (len : ℕ) (r : Reading) (s : State) (all : Reading) → at_end 0 r s ≡ Ok all → at_end len r s ≡ Ok all
 end_anywhere len r Ended all e = e

@@ -1,5 +1,5 @@
 -- A text has exactly one of a Process and a fault.
-use Rattle.std.proofs.Common.{◌≡◌, ℕ, ◌<◌, ◌≤◌, Bool, true, false, List, [], ◌∷◌, length, Option, Some, None, Result, Ok, Err, refl, ap, sym, subst, ◌∙◌, ◌⊎◌, inl, inr, arith}
+use Rattle.std.proofs.Common.{◌≡◌, ℕ, ◌<◌, ◌≤◌, true, false, List, [], length, Option, Some, None, Result, Ok, Err, refl, ap, sym, subst, ◌∙◌, ◌⊎◌, inl, inr, arith}
 use Rattle.std.specs.Prelude.{leb}
 use Rattle.std.proofs.lemmas.Bool.Decides.{leb_tells}
 use Rattle.cd_ast.specs.declared.fault.FaultName.TheVariants.{TooLong, Unresolved}
@@ -11,7 +11,7 @@ use Rattle.cd_grammar.specs.Reading.{Reading}
 use Rattle.cd_grammar.specs.Later.{Found, late_faults, IsFirstOf}
 use Rattle.cd_grammar.specs.Faults.{IsRead, Leaves, longest_plain, longest_text, process_of, InGrammar, IsFault, too_long, in_bytes, in_tokens, in_meaning, resolved, Says, IsFaultOf}
 use Rattle.cd_grammar.specs.Faults as faults
-use Rattle.cd_machine.specs.Placed.{AreKeyed, Placed}
+use Rattle.cd_machine.specs.Placed.{AreKeyed}
 use Rattle.cd_machine.proofs.Walks.{read_once}
 use Rattle.cd_machine.proofs.Exact.{placed_keyed, some_of_both, not_both_of, one_fault}
 use Rattle.cd_machine.proofs.Texts.{text_placed}

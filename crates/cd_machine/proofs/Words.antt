@@ -1,14 +1,14 @@
 -- What the keys of a text's words rule out.
-use Rattle.std.proofs.Common.{◌≡◌, if◌then◌else◌, ℕ, List, [], ◌∷◌, Bool, true, false, ◌&&◌, ◌==◌, length, Option, Some, None, Result, Ok, Err, refl, ap, sym, arith, map, nat_lt, nat_le, ◌∙◌}
+use Rattle.std.proofs.Common.{◌≡◌, if◌then◌else◌, ℕ, List, [], ◌∷◌, Bool, true, false, ◌&&◌, ◌==◌, length, Option, Some, None, Ok, refl, ap, sym, arith, map, nat_lt, nat_le, ◌∙◌}
 use lib.Pointwise.{pointwise_long}
 use Rattle.std.proofs.Common.{nat_eq}
-use Rattle.std.specs.Str.{bytes_eq, str_eq_ignore_ascii_case, str_to_ascii_lowercase}
+use Rattle.std.specs.Str.{str_to_ascii_lowercase}
 use Rattle.cd_types.specs.Label.{is_label}
 use Rattle.cd_types.specs.Symbols.{upper_case}
 use Rattle.cd_grammar.specs.declared.token.Key.{Key}
 use Rattle.cd_grammar.specs.declared.token.Key.TheVariants as key
 use Rattle.cd_grammar.specs.Answers.{Answer, Wrong, taken, ranged}
-use Rattle.cd_grammar.specs.Values.{label_in, front_label_in, has_reference, is_own, symbol_in}
+use Rattle.cd_grammar.specs.Values.{label_in, front_label_in, has_reference, is_own}
 use Rattle.cd_grammar.specs.Words.{key_of, said_in, or_else, or_other, statement_words, inner_words, head_words, step_words, is_word}
 use Rattle.cd_machine.specs.Machine.{is_symbolic}
 

@@ -1,5 +1,5 @@
 -- What the parser does with one token after the other. The laws of it say what that has to do with the grammar.
-use Rattle.std.specs.Prelude.{◌≡◌, ℕ, List, [], ◌∷◌, Bool, true, false, ◌&&◌, ◌==◌, if◌then◌else◌, is_some, Option, Some, None, Result, Ok, Err}
+use Rattle.std.specs.Prelude.{ℕ, List, [], ◌∷◌, Bool, true, false, ◌&&◌, ◌==◌, if◌then◌else◌, is_some, Option, Some, None, Result, Ok, Err}
 use Rattle.std.specs.Option.{option_map}
 use Rattle.cd_types.specs.Symbols.{upper_case}
 use Rattle.cd_types.specs.declared.choices.Relation.{Relation}
@@ -21,18 +21,17 @@ use Rattle.cd_grammar.specs.declared.given.Slot.TheVariants as slot
 use Rattle.cd_grammar.specs.declared.mark.Sketch.TheVariants as sketch
 use Rattle.cd_grammar.specs.declared.step.Begun.{Begun}
 use Rattle.cd_grammar.specs.declared.step.Clock.{Clock}
-use Rattle.cd_grammar.specs.declared.step.Work.{Work}
 use Rattle.cd_grammar.specs.declared.step.End.{End}
 use Rattle.cd_grammar.specs.declared.step.CopyGiven.{CopyGiven}
 use Rattle.cd_grammar.specs.declared.step.Step.{Step}
 use Rattle.cd_grammar.specs.declared.step.Step.TheVariants as step
-use Rattle.cd_grammar.specs.Answers.{Answer, Wrong, Strictness, taken, wanted}
+use Rattle.cd_grammar.specs.Answers.{Strictness, taken}
 use Rattle.cd_grammar.specs.Tokens.{place_of}
 use Rattle.cd_grammar.specs.Values.{label_in, front_label_in, symbol_in, number_in}
 use Rattle.cd_grammar.specs.Starts.{day_in, clock_in, half_in, plain_time, half_time, named_time}
 use Rattle.cd_grammar.specs.Given.{nothing, has, with_value, with_list, takes_list, takes_parentheses, side_of}
-use Rattle.cd_grammar.specs.Reading.{Reading, named, stored, ended, given_of, with_given, slot_of, takes_side, takes_symbols, with_name, bare_copy, end_of, with_end, has_room, has_depth}
-use Rattle.cd_grammar.specs.Grammar.{started, begun_at, relation_of, text_of, work_of, end_in}
+use Rattle.cd_grammar.specs.Reading.{Reading, named, stored, ended, given_of, with_given, slot_of, takes_symbols, with_name, bare_copy, end_of, with_end, has_room, has_depth}
+use Rattle.cd_grammar.specs.Grammar.{started, begun_at, relation_of, work_of, end_in}
 use Rattle.cd_grammar.specs.Later.{Found}
 use Rattle.cd_machine.specs.State.{State}
 use Rattle.cd_machine.specs.State.{At, Labelled, Named, Value, Parenthesized, Closing, Values, Symbol, SymbolValue, Starting, Dated, Timing, Timed, GroupOpen, Compress, Prime, PrimeValue, Primed, Extended, Extending, Pairs, PairNamed, PairValue, Running, IfOpen, IfLabel, IfRelation, IfNumber, IfClose, IfThen, GotoLabel, Ended, Closed}

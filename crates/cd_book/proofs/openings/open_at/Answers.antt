@@ -1,4 +1,4 @@
-use Rattle.std.proofs.Common.{◌≡◌, ◌+◌, Bool, true, false, not, cond, [], ◌∷◌, ◌++◌, drop, reverse, sym, ap, ◌∙◌}
+use Rattle.std.proofs.Common.{◌≡◌, ◌+◌, Bool, true, false, not, cond, [], ◌∷◌, ◌++◌, drop, reverse, ap, ◌∙◌}
 use Rattle.cd_status.specs.Openings.{openings}
 use Rattle.cd_book.specs.Opening.{closed_by}
 use Rattle.cd_book.proofs.StillOpen.{begun_at, none_begun_at, from_on}

@@ -1,6 +1,5 @@
-use Rattle.std.proofs.Common.{refl, List}
+use Rattle.std.proofs.Common.{refl}
 use Rattle.cd_status.specs.Processes.{latest}
-use Rattle.cd_entries.specs.declared.entry.Entry.{Entry}
 use Rattle.cd_book.proofs.Newest.{one_more, all_of}
 use Rattle.cd_book.proofs.process.latest.Goals as goal
 

@@ -1,4 +1,4 @@
-use Rattle.std.proofs.Common.{◌≡◌, ◌<◌, true, ◌&&◌, ltb, List, [], ◌∷◌, ◌++◌, reverse, sym, ap, subst, ◌∙◌, arith, vec_len, vec_capacity}
+use Rattle.std.proofs.Common.{◌≡◌, true, ◌&&◌, ltb, List, [], ◌∷◌, ◌++◌, reverse, sym, ap, subst, ◌∙◌, arith, vec_len, vec_capacity}
 use Rattle.std.proofs.lemmas.Bool.{and_parts, ltb-true}
 use Rattle.std.proofs.lemmas.List.{reverse-append}
 use Rattle.cd_entries.specs.declared.entry.Entry.{Entry}

@@ -1,0 +1,17 @@
+//! Which entries may follow those of a book.
+#![tactic(auto)]
+
+mod closed;
+mod ended;
+mod filed;
+mod judge;
+mod outcome;
+mod own;
+mod placed;
+mod received;
+mod started;
+mod symbols;
+#[cfg(test)]
+mod tests;
+
+pub use judge::may_follow;
