@@ -1,4 +1,5 @@
--- A first world, and a list of events after which one Process has pushed one file of three bytes.
+-- First worlds, and lists of events after which one Process has pushed one file: of three bytes in one piece, and of five bytes
+-- with a loss behind the first mark.
 use Rattle.std.specs.Prelude.{ℕ, List, [], ◌∷◌, codes, Option, Some, None, true, false, if◌then◌else◌}
 use Rattle.std.specs.Str.{bytes_eq}
 use Rattle.cd_types.specs.declared.card.Filed.{Filed}
@@ -8,7 +9,7 @@ use Rattle.cd_entries.specs.declared.entry.Entry.TheVariants as entry
 use Rattle.cd_outside.specs.Shelf.{settled_shelf}
 use Rattle.cd_moves.specs.Node.{Node, Answers}
 use Rattle.cd_moves.specs.Worked.{node_a, node_b}
-use Rattle.cd_world.specs.World.{A, B, Half, World, Event, Does, Submits, Choice, Call, Frame, no_sessions}
+use Rattle.cd_world.specs.World.{A, B, Half, World, Event, Does, Loses, Later, Submits, Choice, Call, Frame, End, no_sessions}
 
 abbrev pub bytes : List ℕ
 bytes = 1 ∷ 2 ∷ 3 ∷ []
@@ -50,3 +51,36 @@ worked_events =
     Submits A card (codes "P1") ∷ Does A (Choice true) ∷ Does B Call
     ∷ Does B (Frame 0 answers) ∷ Does A (Frame 0 answers) ∷ Does B (Frame 0 answers) ∷ Does A (Frame 0 answers) ∷ Does B (Frame 0 answers)
     ∷ Does A (Frame 0 answers) ∷ Does B (Frame 0 answers) ∷ Does A (Frame 0 answers) ∷ Does B (Frame 0 answers) ∷ Does B (Frame 0 answers) ∷ []
+
+abbrev pub five : List ℕ
+five = 1 ∷ 2 ∷ 3 ∷ 4 ∷ 5 ∷ []
+
+abbrev files_five : List ℕ → Option (List ℕ)
+files_five name = if bytes_eq name (codes "a") then Some five else None
+
+-- pieces of two bytes, and a mark behind four
+abbrev pub lossy_world : World
+lossy_world = record {
+  a = half_of (node_a 2 4 (Some five)) (codes "ALPHA") 1 files_five;
+  b = half_of (node_b 2 4) (codes "BETA") 2 (λ name. None);
+  notes = [];
+  clock = 1000;
+  sessions = 0;
+}
+
+abbrev answered_with : List ℕ → Answers
+answered_with piece = record { now = 0; there = None; source = Some 5; bytes = piece }
+
+abbrev none : Answers
+none = answered_with []
+
+-- the Ack behind the mark is lost, both ends are found, and half a minute later the Process is chosen again
+abbrev pub lossy_events : List Event
+lossy_events =
+    Submits A card (codes "P1") ∷ Does A (Choice true) ∷ Does B Call
+    ∷ Does B (Frame 0 none) ∷ Does A (Frame 0 none) ∷ Does B (Frame 0 none) ∷ Does A (Frame 0 (answered_with (1 ∷ 2 ∷ []))) ∷ Does B (Frame 0 none)
+    ∷ Does A (Frame 0 (answered_with (3 ∷ 4 ∷ []))) ∷ Does B (Frame 0 none)
+    ∷ Loses A 0 0 ∷ Does A (End 0) ∷ Does B (End 0) ∷ Later 30
+    ∷ Does A (Choice true) ∷ Does B Call
+    ∷ Does B (Frame 1 none) ∷ Does A (Frame 1 none) ∷ Does B (Frame 1 none) ∷ Does A (Frame 1 (answered_with (5 ∷ []))) ∷ Does B (Frame 1 none)
+    ∷ Does A (Frame 1 none) ∷ Does B (Frame 1 none) ∷ Does A (Frame 1 none) ∷ Does B (Frame 1 none) ∷ Does B (Frame 1 none) ∷ []

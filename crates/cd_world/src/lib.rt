@@ -5,4 +5,4 @@ mod law;
 mod worked;
 
 pub use law::{law_of_events, law_of_fronts};
-pub use worked::worked_push;
+pub use worked::{worked_loss, worked_push};

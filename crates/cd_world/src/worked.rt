@@ -1,9 +1,9 @@
-//! A worked list of events, so that the law speaks of something.
+//! Worked lists of events, so that the law speaks of something.
 ghost use Rattle.std.specs.Prelude.{◌≡◌, [], ◌∷◌, codes, Some};
 ghost use Rattle.cd_status.specs.Processes.{ended};
 ghost use Rattle.cd_moves.specs.Worked.{worked_key};
 ghost use Rattle.cd_world.specs.Holds.{landings};
-ghost use Rattle.cd_world.specs.Worked.{bytes, worked_world, worked_events};
+ghost use Rattle.cd_world.specs.Worked.{bytes, five, worked_world, worked_events, lossy_world, lossy_events};
 ghost use Rattle.cd_world.specs.World.{A, B, IsFirst, ArePossible, after};
 
 /// In a first world a Process is submitted that pushes a file of three bytes, and then all that waits is handled. These
@@ -14,4 +14,14 @@ pub fn worked_push()
     ensures ended_is { ended (after worked_world worked_events).a.node.desk.journal 1 ≡ (0, 0) ∷ [] }
     ensures landed { landings B worked_key (after worked_world worked_events).notes ≡ bytes ∷ [] }
     ensures file { (after worked_world worked_events).b.node.shelf.seen (codes "b") ≡ Some bytes }
+{}
+
+/// A file of five bytes, a mark behind four of them, and a loss behind that mark. Half a minute later the Process is
+/// chosen again, only the last byte is sent, and the whole lands once.
+pub fn worked_loss()
+    ensures first { IsFirst lossy_world }
+    ensures possible { ArePossible lossy_world lossy_events }
+    ensures ended_is { ended (after lossy_world lossy_events).a.node.desk.journal 1 ≡ (0, 0) ∷ [] }
+    ensures landed { landings B worked_key (after lossy_world lossy_events).notes ≡ five ∷ [] }
+    ensures file { (after lossy_world lossy_events).b.node.shelf.seen (codes "b") ≡ Some five }
 {}
