@@ -73,7 +73,7 @@ module _ (desk : Desk) (now : ℕ) where
   -- sending
 
   send_from-one : (role : Side) (talk : Talk) (key : Key) (source : Source) (offset : ℕ) → One (send_from role talk key source offset)
-  send_from-one role talk key source offset = either (◌==◌ offset source.length) (only (Go (after_sending role talk key source) (message.End key source.length ∷ []) ∷ [])) (record {deeds = []; later = Piece role talk key source offset}) (record { is = refl }) (record { is = refl })
+  send_from-one role talk key source offset = either (◌==◌ offset source.length) (only (Go (after_sending role talk key source) (message.End key source.length ∷ []) ∷ [])) (record { deeds = []; later = Piece role talk key source offset }) (record { is = refl }) (record { is = refl })
 
   ready_from-one : (phase : Phase) (role : Side) (talk : Talk) (key : Key) (source : Option Source) (offset : ℕ) → One (ready_from desk now phase role talk key source offset)
   ready_from-one phase role talk key None offset = close-one phase
@@ -81,7 +81,7 @@ module _ (desk : Desk) (now : ℕ) where
 
   push-one : (talk : Talk) (key : Key) (step : CopyStep) (size : Option ℕ) → One (push talk key step size)
   push-one talk key step None = (record { is = refl })
-  push-one talk key step (Some len) = either (leb len greatest_file) (only (Go (Await talk key (Some record {name = step.from; length = len; interval = interval_of step.ckpt})) (message.StepCopyTo key step.to step.disp (interval_of step.ckpt) len ∷ []) ∷ [])) (only (Go (Await talk key None) (message.Abort key TooLarge ∷ []) ∷ [])) (record { is = refl }) (record { is = refl })
+  push-one talk key step (Some len) = either (leb len greatest_file) (only (Go (Await talk key (Some record { name = step.from; length = len; interval = interval_of step.ckpt })) (message.StepCopyTo key step.to step.disp (interval_of step.ckpt) len ∷ []) ∷ [])) (only (Go (Await talk key None) (message.Abort key TooLarge ∷ []) ∷ [])) (record { is = refl }) (record { is = refl })
 
   push_of-one : (phase : Phase) (talk : Talk) (key : Key) (size : Option ℕ) (s : Option What) → One (push_of desk now phase talk key size s)
   push_of-one phase talk key size (Some (what.Copy step)) = push-one talk key step size
@@ -89,7 +89,7 @@ module _ (desk : Desk) (now : ℕ) where
 
   begin-one : (phase : Phase) (talk : Talk) (key : Key) (s : Option What) → One (begin desk now phase talk key s)
   begin-one phase talk key None = (record { is = refl })
-  begin-one phase talk key (Some (what.Copy step)) = either step.push (record {deeds = Begin key (Await talk key None) ∷ []; later = Push talk key}) (pull talk key step) (record { is = refl }) (record { is = refl })
+  begin-one phase talk key (Some (what.Copy step)) = either step.push (record { deeds = Begin key (Await talk key None) ∷ []; later = Push talk key }) (pull talk key step) (record { is = refl }) (record { is = refl })
   begin-one phase talk key _ = close-one phase
 
   step_at-one : (phase : Phase) (talk : Talk) (key : Key) (o : Option Outcomes) → One (step_at desk now phase talk key o)
@@ -120,10 +120,10 @@ module _ (desk : Desk) (now : ℕ) where
   given_up-one role talk key why (status.Done o) = answer-one role talk key (failed why)
 
   receive_again-one : (phase : Phase) (role : Side) (talk : Talk) (r : Receiving) (safe : ℕ) (a : Announced) → One (receive_again desk now phase role talk r safe a)
-  receive_again-one phase role talk r safe a = either (not (is_same_receiving r a)) _ _ (close-one phase) (either (a.length == r.length) (resume role talk r safe) _ (record { is = refl }) (either (leb (r.base + a.length) greatest_file) (receive_anew role talk record {key = r.key; name = r.name; disp = r.disp; there = r.there; base = r.base; length = a.length; interval = r.interval}) (drop_back role talk r.key TooLarge) (record { is = refl }) (record { is = refl })))
+  receive_again-one phase role talk r safe a = either (not (is_same_receiving r a)) _ _ (close-one phase) (either (a.length == r.length) (resume role talk r safe) _ (record { is = refl }) (either (leb (r.base + a.length) greatest_file) (receive_anew role talk record { key = r.key; name = r.name; disp = r.disp; there = r.there; base = r.base; length = a.length; interval = r.interval }) (drop_back role talk r.key TooLarge) (record { is = refl }) (record { is = refl })))
 
   receive_first-one : (role : Side) (talk : Talk) (key : Key) (a : Announced) → One (receive_first desk now role talk key a)
-  receive_first-one role talk key a = either (is_in_use desk.journal key a.name) _ (record {deeds = []; later = Onto role talk key a}) (answer-one role talk key (failed InUse)) (record { is = refl })
+  receive_first-one role talk key a = either (is_in_use desk.journal key a.name) _ (record { deeds = []; later = Onto role talk key a }) (answer-one role talk key (failed InUse)) (record { is = refl })
 
   receive_from-one : (phase : Phase) (role : Side) (talk : Talk) (key : Key) (a : Announced) (s : Status) → One (receive_from desk now phase role talk key a s)
   receive_from-one phase role talk key a (status.Open r safe) = receive_again-one phase role talk r safe a
@@ -167,12 +167,12 @@ module _ (desk : Desk) (now : ℕ) where
   held-one n (Some placed) = ends (is_live desk.journal n) (Keep (place_in n now Hold Rejected placed) ∷ []) [] (Go Gone [] ∷ []) (record { is = refl }) (record { is = refl })
 
   run-one : (n : ℕ) (w : Welcome) (placed : Option Placing) (own : Option (List ℕ × ℕ)) → One (run desk now n w placed own)
-  run-one n w (Some placed) (Some own) = either (is_running now placed) (record {deeds = Keep (place_in n now Execution Running placed) ∷ []; later = Next (own_talk own n desk.config.block w) n}) _ (record { is = refl }) (close-one (Greet n))
+  run-one n w (Some placed) (Some own) = either (is_running now placed) (record { deeds = Keep (place_in n now Execution Running placed) ∷ []; later = Next (own_talk own n desk.config.block w) n }) _ (record { is = refl }) (close-one (Greet n))
   run-one n w None own = close-one (Greet n)
   run-one n w (Some placed) None = close-one (Greet n)
 
   row_greet-one : (n : ℕ) (m : Message) → One (row_greet desk now n m)
-  row_greet-one n (message.Welcome w) = either (is_called (submission desk.journal n) w.name) _ (record {deeds = held desk now n (placing desk.journal n) ++ Go Gone [] ∷ []; later = (rejected desk now n).later}) (run-one n w (placing desk.journal n) (own_home desk.journal)) (record { is = (held-one n (placing desk.journal n)).is })
+  row_greet-one n (message.Welcome w) = either (is_called (submission desk.journal n) w.name) _ (record { deeds = held desk now n (placing desk.journal n) ++ Go Gone [] ∷ []; later = (rejected desk now n).later }) (run-one n w (placing desk.journal n) (own_home desk.journal)) (record { is = (held-one n (placing desk.journal n)).is })
   row_greet-one n (message.Reject (reject.Busy total)) = close-one (Greet n)
   row_greet-one n (message.Reject _) = record { is = (held-one n (placing desk.journal n)).is }
   row_greet-one n _ = close-one (Greet n)
@@ -211,7 +211,7 @@ module _ (desk : Desk) (now : ℕ) where
 
   offered-one : (talk : Talk) (key : Key) (name : List ℕ) (interval : ℕ) (size : Option ℕ) → One (offered talk key name interval size)
   offered-one talk key name interval None = (record { is = refl })
-  offered-one talk key name interval (Some len) = either (leb len greatest_file) (only (Go (Offer talk key record {name = name; length = len; interval = interval}) (message.Length key len ∷ []) ∷ [])) (only (Go (Ready talk (Some key)) (message.Abort key TooLarge ∷ []) ∷ [])) (record { is = refl }) (record { is = refl })
+  offered-one talk key name interval (Some len) = either (leb len greatest_file) (only (Go (Offer talk key record { name = name; length = len; interval = interval }) (message.Length key len ∷ []) ∷ [])) (only (Go (Ready talk (Some key)) (message.Abort key TooLarge ∷ []) ∷ [])) (record { is = refl }) (record { is = refl })
 
   module _ (sessions : Sessions) (sid : ℕ) (phase : Phase) where
     take_step-one : (talk : Talk) (key : Key) (part : Part) → One part → One (take_step desk sessions now sid phase talk key part)
