@@ -1,10 +1,9 @@
 -- What deeds make of a node, and what a crash leaves while they are done.
-use Rattle.std.proofs.Common.{◌≡◌, ◌⊎◌, inl, inr, ⊎_elim, ℕ, ◌<◌, ◌≤◌, Bool, true, false, cond, eqb, List, [], ◌∷◌, ◌++◌, Option, Some, None, refl, sym, ap, subst, ◌∙◌, append_assoc, arith}
+use Rattle.std.proofs.Common.{◌≡◌, ◌⊎◌, inl, inr, ⊎_elim, ℕ, ◌≤◌, Bool, cond, eqb, List, [], ◌∷◌, Option, Some, refl, sym, ap, subst, ◌∙◌}
 use Rattle.std.proofs.lemmas.List.{append-nil}
-use Rattle.std.proofs.lemmas.Bool.{eq-eqb, cond-true}
-use Rattle.cd_types.specs.declared.key.Key.{Key}
-use Rattle.cd_outside.specs.Shelf.{FileMap, FileChange, Shelf, changed, IsShelfImage}
-use Rattle.cd_outside.specs.Files.{FilesState, files_did, FilesWereCutOff, FilesWereBegun, files_last_of, FilesLeftAt}
+use Rattle.std.proofs.lemmas.Bool.{eq-eqb}
+use Rattle.cd_outside.specs.Shelf.{Shelf, changed, IsShelfImage}
+use Rattle.cd_outside.specs.Files.{FilesState, files_last_of, FilesLeftAt}
 use Rattle.cd_outside.specs.Lines.{Traffic}
 use Rattle.cd_outside.specs.Disk.{DiskState, last_of, LeftAt}
 use Rattle.cd_outside.specs.Moments.{Moments}
@@ -12,13 +11,12 @@ use Rattle.cd_outside.proofs.Runs.{moments_then, moments_weaker}
 use Rattle.cd_entries.specs.declared.entry.Entry.{Entry}
 use Rattle.cd_frames.specs.Message.{Message}
 use Rattle.cd_status.specs.Keys.{same_key}
-use Rattle.cd_moves.specs.Node.{Node, Deed, Keep, Touch, AskSize, AskBytes, Begin, Go, did, does, sends}
+use Rattle.cd_moves.specs.Node.{Node, Deed, Keep, Touch, AskSize, AskBytes, Begin, Go, did, sends}
 use Rattle.cd_moves.specs.declared.session.Phase.{Phase}
-use Rattle.cd_deeds.specs.Calls.{touched, FilesDid, FilesTorn, WasBegun, ShelfTorn, IsBeforeOrAfter}
+use Rattle.cd_deeds.specs.Calls.{touched, FilesDid, FilesTorn, ShelfTorn, IsBeforeOrAfter}
 use Rattle.cd_deeds.specs.Joint.{NodeImage, JointAt, StandsFor, IsWithin}
 use Rattle.cd_deeds.specs.Registry.{RegistryState, IsRegistry}
-use Rattle.cd_deeds.specs.Stands.{holder_of, Spot, Stands, gave, kept, phased, held, given, IsKeptOrNot, WereDone, GaveSome, TrafficTorn, WasTorn, IsFaultOf, IsNoTouch}
-use Rattle.cd_deeds.specs.declared.fault.Fault.{Fault}
+use Rattle.cd_deeds.specs.Stands.{holder_of, Spot, Stands, gave, kept, phased, held, given, IsKeptOrNot, WereDone, TrafficTorn, IsFaultOf, IsNoTouch}
 use Rattle.cd_deeds.specs.declared.fault.Fault.TheVariants as fault
 use Rattle.cd_deeds.specs.declared.holders.Holding.{Holding}
 use Rattle.cd_deeds.proofs.Joint.{Both, joint_disk, joint_files, joint_none}

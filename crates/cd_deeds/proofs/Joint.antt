@@ -1,6 +1,5 @@
 -- How the images of a node follow from those of its devices.
-use Rattle.std.proofs.Common.{◌≡◌, ◌⊎◌, inl, inr, ⊎_elim, ℕ, ◌<◌, ◌≤◌, List, [], ◌∷◌, ◌++◌, refl, sym, ◌∙◌, ap, subst, arith}
-use Rattle.std.proofs.lemmas.List.{append-nil}
+use Rattle.std.proofs.Common.{ℕ, ◌≤◌, List, subst, arith}
 use Rattle.cd_outside.specs.Doubt.{Doubt, IsImage}
 use Rattle.cd_outside.specs.Disk.{DiskState, last_of, LeftAt}
 use Rattle.cd_outside.specs.Files.{FilesState, files_last_of, FilesLeftAt}

@@ -1,6 +1,6 @@
 -- Deeds that are allowed are ready.
-use Rattle.std.proofs.Common.{◌≡◌, ℕ, ◌+◌, ◌<◌, ◌≤◌, Bool, true, false, ◌&&◌, leb, ltb, List, [], ◌∷◌, Option, Some, None, arith}
-use Rattle.std.specs.Prelude.{IsTrue, nat_lt, nat_le}
+use Rattle.std.proofs.Common.{◌≡◌, ℕ, ◌<◌, true, ◌&&◌, List, [], ◌∷◌, arith}
+use Rattle.std.specs.Prelude.{nat_lt}
 use Rattle.std.specs.List.{list_all}
 use Rattle.std.proofs.lemmas.Bool.{and_parts, ltb-true, le-leb, lt-ltb}
 use Rattle.cd_types.specs.Choices.{is_kept}
@@ -18,7 +18,7 @@ use Rattle.cd_status.specs.Processes.{moment_of}
 use Rattle.cd_moves.specs.Node.{Deed, Keep, Touch, AskSize, AskBytes, Begin, Go}
 use Rattle.cd_moves.specs.Rows.{is_by, is_formed, is_sendable, may_record, are_allowed}
 use Rattle.cd_deeds.specs.Stands.{AreReady, AreSendable, HasFormedOrigin, HaveFormedOrigins}
-use Rattle.cd_deeds.proofs.Short.{HasShortText, allowed_short}
+use Rattle.cd_deeds.proofs.Short.{allowed_short}
 
 place_of : (place : ℕ) → nat_lt place 1024 ≡ true → IsPlace place
 place_of place is = le-leb place 1023 (let h : place < 1024 = ltb-true place 1024 is in omega arith)

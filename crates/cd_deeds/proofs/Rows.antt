@@ -1,8 +1,6 @@
 -- Deeds one after another.
-use Rattle.std.proofs.Common.{◌≡◌, ℕ, suc, ◌+◌, ◌<◌, ◌≤◌, List, [], ◌∷◌, ◌++◌, length, take, drop, map, get_or, refl, sym, ap, subst, ◌∙◌, append_assoc, arith}
-use Rattle.std.proofs.lemmas.List.{append-nil, map-append}
-use Rattle.cd_outside.specs.Disk.{DiskState}
-use Rattle.cd_outside.specs.Files.{FilesState}
+use Rattle.std.proofs.Common.{◌≡◌, ℕ, ◌+◌, ◌<◌, ◌≤◌, List, [], ◌∷◌, ◌++◌, length, take, drop, map, get_or, refl, sym, ap, subst, ◌∙◌, append_assoc}
+use Rattle.std.proofs.lemmas.List.{map-append}
 use Rattle.cd_outside.specs.Lines.{Traffic, sent}
 use Rattle.cd_outside.specs.Moments.{Moments}
 use Rattle.cd_outside.specs.Shelf.{IsShelfImage}
@@ -14,7 +12,7 @@ use Rattle.cd_legal.specs.Steps.{Reading}
 use Rattle.cd_moves.specs.Node.{Node, Deed, Keep, Touch, AskSize, AskBytes, Begin, Go, did, does, sends}
 use Rattle.cd_moves.specs.Seen.{seen_deed}
 use Rattle.cd_moves.specs.declared.deed.Deed as told
-use Rattle.cd_deeds.specs.Joint.{NodeImage, JointAt, StandsFor, IsWithin}
+use Rattle.cd_deeds.specs.Joint.{NodeImage, StandsFor, IsWithin}
 use Rattle.cd_deeds.specs.Stands.{Spot, Stands, gave, kept, WereDone, WereCut, WasTorn, IsFaultOf, IsReady, AreReady}
 use Rattle.cd_deeds.specs.declared.fault.Fault.{Fault}
 use Rattle.cd_deeds.proofs.Sending.{split_at}

@@ -3,7 +3,7 @@ use Rattle.std.proofs.Common.{◌≡◌, ℕ, suc, ◌+◌, ◌-◌, ◌<◌, �
 use Rattle.std.proofs.Math.Numerals.{add-one}
 use Rattle.std.proofs.Math.Seq.{drop-cons, take-suc}
 use Rattle.std.proofs.lemmas.List.{append-nil, take-append-drop, map-append}
-use Rattle.cd_outside.specs.Counts.{next, Rose}
+use Rattle.cd_outside.specs.Counts.{Rose}
 use Rattle.cd_outside.specs.Lines.{Traffic, LineCounts, NeverFell, sent, GaveFront}
 use Rattle.cd_frames.specs.Frame.{frame_bytes, IsWritable}
 use Rattle.cd_frames.specs.Message.{Message}

@@ -1,14 +1,12 @@
 -- An entry in its form has at most 262,144 bytes, and a frame at most 131,072 behind its length.
-use Rattle.std.proofs.Common.{◌≡◌, ℕ, ◌+◌, ◌≤◌, Bool, true, ◌&&◌, leb, List, [], ◌∷◌, ◌++◌, length, Option, Some, None, arith, length-append}
-use Rattle.std.specs.Prelude.{IsTrue, not, ◌||◌, ◌==◌, nat_lt, nat_le}
+use Rattle.std.proofs.Common.{◌≡◌, ℕ, ◌+◌, ◌≤◌, true, ◌&&◌, leb, List, [], ◌++◌, length, Option, Some, None, arith, length-append}
+use Rattle.std.specs.Prelude.{◌==◌, nat_lt, nat_le}
 use Rattle.std.proofs.lemmas.Bool.{and_parts, leb-true}
 use Rattle.cd_types.specs.Choices.{hold_code, retain_code, queue_code, reason_code, cause_code, disp_code, task_kind_code, how_code}
 use Rattle.cd_types.specs.Compound.{flag, optional_bytes, IsOptional}
-use Rattle.cd_types.specs.FileName.{is_file_name}
 use Rattle.cd_types.specs.FileNameLaw.{file_name_is_short}
 use Rattle.cd_types.specs.Filed.{IsCard, card_bytes}
 use Rattle.cd_types.specs.Key.{IsKey, key_bytes}
-use Rattle.cd_types.specs.Label.{IsLabel}
 use Rattle.cd_types.specs.LabelLaw.{label_is_short}
 use Rattle.cd_types.specs.NodeName.{IsNodeName}
 use Rattle.cd_types.specs.NodeNameLaw.{node_name_is_short}

@@ -1,12 +1,12 @@
 -- What a crash leaves of the files while a deed is done.
-use Rattle.std.proofs.Common.{◌≡◌, ◌⊎◌, inl, inr, ⊎_elim, ℕ, ◌<◌, ◌≤◌, refl, sym, ap, subst, arith}
+use Rattle.std.proofs.Common.{◌≡◌, inl, inr, ⊎_elim, ℕ, ◌<◌, ◌≤◌, subst}
 use Rattle.cd_outside.specs.Counts.{next}
-use Rattle.cd_outside.specs.Shelf.{FileMap, FileChange, WriteFile, CutFile, SyncFile, RemoveFile, Shelf, within, changed, IsShelfImage}
-use Rattle.cd_outside.specs.Files.{FilesState, files_last_of, FilesLeftAt, files_did, FilesWereBegun, FilesWereCutOff}
+use Rattle.cd_outside.specs.Shelf.{FileMap, FileChange, WriteFile, CutFile, SyncFile, RemoveFile, Shelf, within, IsShelfImage}
+use Rattle.cd_outside.specs.Files.{FilesState, files_last_of, FilesLeftAt, files_did, FilesWereCutOff}
 use Rattle.cd_outside.specs.Moments.{Moments}
 use Rattle.cd_outside.proofs.FilesRuns.{files_moments_none, files_moments_did, files_moments_begun}
 use Rattle.cd_moves.specs.Node.{Deed, Touch}
-use Rattle.cd_deeds.specs.Calls.{touched, FilesDid, FilesTorn, IsBeforeOrAfter}
+use Rattle.cd_deeds.specs.Calls.{IsBeforeOrAfter}
 
 -- what is in doubt while a change is under way was before it, or is after it
 pub within_image : (change : FileChange) (shelf : Shelf) (image : FileMap) → IsShelfImage (within change shelf) image → IsBeforeOrAfter (Touch change) shelf image

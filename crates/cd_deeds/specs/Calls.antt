@@ -1,5 +1,5 @@
 -- What one deed makes of the files.
-use Rattle.std.specs.Prelude.{◌≡◌, ◌⊎◌, ℕ, ◌<◌, List, false}
+use Rattle.std.specs.Prelude.{◌≡◌, ◌⊎◌, ℕ, List, false}
 use Rattle.std.specs.Str.{bytes_eq}
 use Rattle.cd_outside.specs.Shelf.{FileMap, FileChange, name_of, Shelf, within, changed, IsShelfImage}
 use Rattle.cd_outside.specs.Files.{FilesState, files_did, FilesWereCutOff}

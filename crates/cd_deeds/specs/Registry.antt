@@ -1,5 +1,5 @@
 -- A registry: the journal of a node, and the entries that the journal's bytes stand for.
-use Rattle.std.specs.Prelude.{◌≡◌, ◌⊎◌, ℕ, ◌<◌, List, ◌∷◌, length, Bool, true, ◌↔◌}
+use Rattle.std.specs.Prelude.{◌≡◌, ◌⊎◌, ℕ, ◌<◌, List, ◌∷◌, length, true, ◌↔◌}
 use Rattle.cd_outside.specs.Doubt.{settled}
 use Rattle.cd_outside.specs.Disk.{DiskState}
 use Rattle.cd_journal.specs.Journal.{Held, IsAt}

@@ -1,7 +1,7 @@
-use Rattle.std.proofs.Common.{◌≡◌, ◌≤◌, ◌∙◌, map, refl, arith, rules}
+use Rattle.std.proofs.Common.{◌∙◌, map, refl, arith, rules}
 use Rattle.std.proofs.lemmas.Iterator.Adapters.{YieldsList-from_vec}
 use Rattle.std.proofs.lemmas.Iterator.Consumers.{YieldsList-so_far, YieldsList-turn}
-use Rattle.cd_moves.specs.Node.{Node, does}
+use Rattle.cd_moves.specs.Node.{does}
 use Rattle.cd_moves.specs.Seen.{seen_deed}
 use Rattle.cd_deeds.specs.Joint.{JointAt}
 use Rattle.cd_deeds.specs.Stands.{spot}

@@ -1,8 +1,5 @@
-use Rattle.std.proofs.Common.{◌≡◌, ◌≤◌, ℕ, sym, subst, ap, ◌∙◌, take, length, map}
-use Rattle.cd_outside.specs.Lines.{Traffic}
-use Rattle.cd_moves.specs.Seen.{seen_frame}
-use Rattle.cd_deeds.specs.Stands.{gave}
-use Rattle.cd_deeds.proofs.Sending.{sendable_here, gave_some, gave_next, fell_then, fell_none, rose_later}
+use Rattle.std.proofs.Common.{◌≤◌, ℕ, sym, subst, ◌∙◌}
+use Rattle.cd_deeds.proofs.Sending.{sendable_here, gave_some, gave_next, fell_then, rose_later}
 use Rattle.cd_deeds.proofs.session.send_all.Goals as goal
 
 pub send-requires-clause-to : goal.send-requires-clause-to

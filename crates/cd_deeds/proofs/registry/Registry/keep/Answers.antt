@@ -1,6 +1,5 @@
-use Rattle.std.proofs.Common.{◌≡◌, ◌≤◌, List, ℕ, length, refl, ap, sym, rules, subst, ◌∙◌}
-use Rattle.cd_entries.specs.Entry.{entry_bytes}
-use Rattle.cd_journal.specs.Journal.{Held, KeepsList}
+use Rattle.std.proofs.Common.{◌≡◌, ◌≤◌, List, ℕ, length, ap, sym, rules, subst, ◌∙◌}
+use Rattle.cd_journal.specs.Journal.{KeepsList}
 use Rattle.cd_deeds.specs.Registry.{RegistryState}
 use Rattle.cd_deeds.proofs.Recording.{entry_some, appended, unchanged, before_disk, registry_stays, keeps_through}
 use Rattle.cd_deeds.proofs.Short.{allowed_short, entry_short}
