@@ -24,7 +24,7 @@ def is_there(crate, path, clause):
     for file in sorted((TOP / "crates" / crate / "src").rglob("*.rt")):
         text = file.read_text(encoding="utf-8")
         for before, contract in contracts(text, name):
-            owners = re.findall(r"^(?:pub )?(?:impl|trait)\b[^\n{]*?(\w+)(?:<[^\n{]*>)?(?::[^\n{]*)?\s*\{", before, re.M)
+            owners = re.findall(r"^(?:pub )?(?:impl(?:<[^\n{>]*>)?|trait)\s[^\n{]*?(\w+)(?:<[^\n{]*>)?(?::[^\n{]*)?\s*\{", before, re.M)
             if owner and (not owners or owner not in owners[-1:]):
                 continue
             named = r"\{" if clause == "contract" else rf"{clause}\b"

@@ -1,4 +1,4 @@
--- Where no device fails, a run does all of its input.
+-- Where no device fails, a run does all of its input; where the journal is none, it is turned away.
 use Rattle.std.proofs.Common.{◌≡◌, ◌⊎◌, inl, inr, ⊎_elim, ℕ, ◌+◌, ◌^◌, ◌<◌, ◌≤◌, cond, Bool, true, false, List, [], ◌∷◌, ◌++◌, length, map, Option, Some, None, option_to_list, refl, sym, ap, subst, ◌∙◌, arith}
 use Rattle.std.specs.Prelude.{All}
 use Rattle.std.proofs.lemmas.List.{append-nil, map-append}
@@ -9,13 +9,16 @@ use Rattle.cd_entries.specs.declared.entry.Entry.{Entry}
 use Rattle.cd_entries.specs.Entry.{entry_bytes}
 use Rattle.cd_input.specs.Input.{Event}
 use Rattle.cd_turn.specs.Ends.{journal_length, FitsBehind, IsFull}
-use Rattle.cd_turn.specs.Home.{IsUnfit}
+use Rattle.cd_turn.specs.Home.{StandsFor, IsFit, IsUnfit}
+use Rattle.cd_turn.specs.Legal.{IsLegal}
 use Rattle.cd_turn.specs.Status.{last_line}
 use Rattle.cd_turn.specs.Turn.{Turn, told_by, added, after_turn, after_turns, replies}
 use Rattle.cd_turn.specs.declared.reply.Reply.{Reply}
 use Rattle.cd_turn.specs.declared.status.Status.{Status}
 use Rattle.cd_turn.specs.declared.status.Status.TheVariants.{Done, Usage, Refused, Unfit, SourceFault, DiskFault, SinkFault, InputLimit, JournalFull, NoMemory}
-use Rattle.cd_cli.specs.Complete.{turns_at, IsFit, whole_status, IsWhole, Completes}
+use Rattle.cd_turn.proofs.Fit.{fit_apart, one_list}
+use Rattle.cd_cli.specs.Complete.{turns_at, whole_status, IsWhole, Completes, TurnsAway}
+use Rattle.cd_cli.proofs.Going.{ended_weaker}
 use Rattle.cd_cli.specs.Run.{most_input, run_events, texts, refused_after, OfBegun, EachFits, EndedBy, IsOpening, Ran, NotOpened, Opened, TookLine, Served}
 
 abbrev event_in : Turn → Event
@@ -56,7 +59,7 @@ full_fits told entries entry len t full fits =
     omega arith
 
 module _ (disk clock source sink rose_disk rose_in rose_out : Type 0) (moment : ℕ) (before now : DiskState) (input rest out : List ℕ) (tells_disk : disk) (tells_clock : clock) (tells_source : source) (tells_sink : sink)
-    (fit : IsFit before.seen) (small : length input ≤ most_input) (no_disk : rose_disk → ⊥) (no_in : rose_in → ⊥) (no_out : rose_out → ⊥) where
+    (kept : List Entry) (stood : StandsFor before.seen kept) (legal : IsLegal kept) (small : length input ≤ most_input) (no_disk : rose_disk → ⊥) (no_in : rose_in → ⊥) (no_out : rose_out → ⊥) where
   abbrev Why : Status → Type 0
   Why status = EndedBy rose_disk (λ at. disk → IsUnfit before.seen at) rose_in rose_out status
 
@@ -64,7 +67,7 @@ module _ (disk clock source sink rose_disk rose_in rose_out : Type 0) (moment : 
   never_opened Done opening why = absurd opening
   never_opened Usage opening why = absurd opening
   never_opened Refused opening why = absurd opening
-  never_opened (Unfit at) opening why = absurd (fit at (why tells_disk))
+  never_opened (Unfit at) opening why = absurd (fit_apart before.seen at (kept, stood, legal) (why tells_disk))
   never_opened DiskFault opening why = absurd (no_disk why)
   never_opened (JournalFull len) opening why = absurd opening
   never_opened SourceFault opening why = absurd opening
@@ -126,13 +129,37 @@ module _ (disk clock source sink rose_disk rose_in rose_out : Type 0) (moment : 
   took_whole : (told line out_now : List ℕ) → TookLine rose_out told line out_now → out_now ≡ told ++ line
   took_whole told line out_now took = ⊎_elim (λ (h : out_now ≡ told ++ line). h) (λ (h : rose_out × TookFront told line out_now). absurd (no_out h.0)) took
 
-  pub served_completes : (out_now : List ℕ) (status : Status) → Why status → Served disk clock source sink rose_out moment before now input rest out out_now status → Completes moment before.seen input out out_now status
-  served_completes out_now status why served = ⊎_elim
+  pub served_completes : EachFits kept (turns_at moment (run_events input)) → (out_now : List ℕ) (status : Status) → Why status → Served disk clock source sink rose_out moment before now input rest out out_now status → Completes moment kept input out out_now status
+  served_completes fits out_now status why served = ⊎_elim
       (λ (none : NotOpened disk source sink before now input rest out served.told status). inl (never_opened status none.opening why))
-      (λ (o : Opened disk clock source sink moment before now input rest out served.told status). inr (
-        o.entries,
-        o.stood tells_disk,
-        o.legal,
-        λ fits. ran_whole o.entries served.told out_now fits status o.ran (took_whole served.told (last_line status) out_now (served.last tells_sink)) why,
-      ))
+      (λ (o : Opened disk clock source sink moment before now input rest out served.told status).
+      let same : kept ≡ o.entries = one_list before.seen kept o.entries stood legal (o.stood tells_disk) o.legal in
+      subst (λ (entries : List Entry). Completes moment entries input out out_now status) (sym same)
+      (ran_whole o.entries served.told out_now (subst (λ (entries : List Entry). EachFits entries (turns_at moment (run_events input))) same fits) status o.ran
+      (took_whole served.told (last_line status) out_now (served.last tells_sink)) why))
       served.came
+
+-- a home couldn't be opened
+away : (rose_disk : Type 0) (unfit : ℕ → Type 0) (rose_in rose_out : Type 0) (status : Status) → IsOpening status → EndedBy rose_disk unfit rose_in rose_out status → TurnsAway unfit rose_disk status
+away rose_disk unfit rose_in rose_out Done opening why = absurd opening
+away rose_disk unfit rose_in rose_out Usage opening why = absurd opening
+away rose_disk unfit rose_in rose_out Refused opening why = absurd opening
+away rose_disk unfit rose_in rose_out (Unfit at) opening why = why
+away rose_disk unfit rose_in rose_out DiskFault opening why = why
+away rose_disk unfit rose_in rose_out (JournalFull len) opening why = absurd opening
+away rose_disk unfit rose_in rose_out SourceFault opening why = absurd opening
+away rose_disk unfit rose_in rose_out SinkFault opening why = absurd opening
+away rose_disk unfit rose_in rose_out InputLimit opening why = absurd opening
+away rose_disk unfit rose_in rose_out NoMemory opening why = tt
+
+-- what is said of a place where the disk tells is said of it
+unfit_told : (disk rose_disk rose_in rose_out : Type 0) (unfit : ℕ → Type 0) (status : Status) → disk → EndedBy rose_disk (λ at. disk → unfit at) rose_in rose_out status → EndedBy rose_disk unfit rose_in rose_out status
+unfit_told disk rose_disk rose_in rose_out unfit status told why = ended_weaker rose_disk rose_disk (λ at. disk → unfit at) unfit rose_in rose_in rose_out rose_out (λ h. h) (λ at h. h told) (λ h. h) (λ h. h) status why
+
+pub served_away : (disk clock source sink rose_disk rose_in rose_out : Type 0) (moment : ℕ) (before now : DiskState) (input rest out out_now : List ℕ) (status : Status) → disk → (IsFit before.seen → ⊥)
+    → EndedBy rose_disk (λ at. disk → IsUnfit before.seen at) rose_in rose_out status → Served disk clock source sink rose_out moment before now input rest out out_now status → TurnsAway (IsUnfit before.seen) rose_disk status
+served_away disk clock source sink rose_disk rose_in rose_out moment before now input rest out out_now status told no_fit why served = ⊎_elim
+    (λ (none : NotOpened disk source sink before now input rest out served.told status).
+    away rose_disk (IsUnfit before.seen) rose_in rose_out status none.opening (unfit_told disk rose_disk rose_in rose_out (IsUnfit before.seen) status told why))
+    (λ (o : Opened disk clock source sink moment before now input rest out served.told status). absurd (no_fit (o.entries, o.stood told, o.legal)))
+    served.came

@@ -1,22 +1,16 @@
--- What a run comes to where no device fails.
+-- What a run comes to where no device fails, and where its journal is none.
 use Rattle.std.specs.Prelude.{◌≡◌, ◌⊎◌, ℕ, List, ◌++◌, map, false, if◌then◌else◌}
 use Rattle.cd_entries.specs.declared.entry.Entry.{Entry}
 use Rattle.cd_input.specs.Input.{Event}
-use Rattle.cd_turn.specs.Home.{StandsFor, IsUnfit}
-use Rattle.cd_turn.specs.Legal.{IsLegal}
 use Rattle.cd_turn.specs.Turn.{Turn, replies}
 use Rattle.cd_turn.specs.declared.reply.Reply.{Reply}
 use Rattle.cd_turn.specs.declared.status.Status.{Status}
-use Rattle.cd_turn.specs.declared.status.Status.TheVariants.{Done, Refused, NoMemory}
-use Rattle.cd_cli.specs.Run.{run_events, texts, refused_after, EachFits}
+use Rattle.cd_turn.specs.declared.status.Status.TheVariants.{Done, Refused, Unfit, DiskFault, NoMemory}
+use Rattle.cd_cli.specs.Run.{run_events, texts, refused_after}
 
 -- the turns of these events, at one moment
 abbrev pub turns_at : ℕ → List Event → List Turn
 turns_at moment brought = map (λ event. record { now = moment; event = event }) brought
-
--- no place of these bytes is wrong: there are none, or they are a journal of a legal list
-abbrev pub IsFit : List ℕ → Type 0
-IsFit seen = (at : ℕ) → IsUnfit seen at → ⊥
 
 -- whether the last command was refused
 abbrev pub whole_status : List Reply → Status
@@ -27,7 +21,13 @@ pub record IsWhole (moment : ℕ) (entries : List Entry) (input out out_now : Li
   pub status_is : status ≡ whole_status (replies entries (turns_at moment (run_events input)))
   pub out_is : out_now ≡ out ++ texts (replies entries (turns_at moment (run_events input)))
 
--- Memory ran out, or all of the input was done, if each entry that it adds to those of the journal's bytes fits.
-abbrev pub Completes : ℕ → List ℕ → List ℕ → List ℕ → List ℕ → Status → Type 0
-Completes moment seen input out out_now status =
-    (status ≡ NoMemory) ⊎ ((entries : List Entry) × StandsFor seen entries × IsLegal entries × (EachFits entries (turns_at moment (run_events input)) → (status ≡ NoMemory) ⊎ IsWhole moment entries input out out_now status))
+-- memory ran out, or all of the input was done
+abbrev pub Completes : ℕ → List Entry → List ℕ → List ℕ → List ℕ → Status → Type 0
+Completes moment entries input out out_now status = (status ≡ NoMemory) ⊎ IsWhole moment entries input out out_now status
+
+-- the run was turned away: it tells a wrong place of the journal, or the disk failed, or memory ran out
+abbrev pub TurnsAway : (ℕ → Type 0) → Type 0 → Status → Type 0
+TurnsAway unfit disk (Unfit at) = unfit at
+TurnsAway unfit disk DiskFault = disk
+TurnsAway unfit disk NoMemory = Unit {0}
+TurnsAway unfit disk _ = ⊥

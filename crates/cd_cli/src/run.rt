@@ -1,19 +1,20 @@
 //! A run of the node: the input is read on, and each command in it is a turn.
-ghost use Rattle.std.specs.Prelude.{◌≡◌, ◌⊎◌, ◌≤◌, ◌<◌, ◌++◌, ◌∷◌, [], Bool, true, false, length, option_map, OnOk, OnErr, IfOk, IfErr};
+ghost use Rattle.std.specs.Prelude.{◌≡◌, ◌⊎◌, ◌≤◌, ◌<◌, ◌++◌, ◌∷◌, [], List, Bool, true, false, length, option_map, OnOk, OnErr, IfOk, IfErr};
 ghost use Rattle.cd_outside.specs.Counts.{Rose};
 ghost use Rattle.cd_outside.specs.Disk.{last_of, LeftAt};
 ghost use Rattle.cd_outside.specs.Moments.{Moments};
+ghost use Rattle.cd_entries.specs.declared.entry.Entry.{Entry};
 ghost use Rattle.cd_input.specs.Input.{scan_after, end_events, limit_events, begin};
 ghost use Rattle.cd_input.specs.Scanner.{event_of, events_of};
 ghost use Rattle.cd_turn.specs.Ends.{MayLeave};
-ghost use Rattle.cd_turn.specs.Home.{IsHome, IsUnfit};
+ghost use Rattle.cd_turn.specs.Home.{StandsFor, IsHome, IsFit, IsUnfit};
 ghost use Rattle.cd_turn.specs.Legal.{IsLegal};
 ghost use Rattle.cd_turn.specs.PlainSeen.{seen_command};
 ghost use Rattle.cd_turn.specs.Status.{last_line};
 ghost use Rattle.cd_turn.specs.Turn.{IsFormed, told_by};
 ghost use Rattle.cd_cli.specs.Flow.{was_refused};
-ghost use Rattle.cd_cli.specs.Complete.{IsFit, Completes};
-ghost use Rattle.cd_cli.specs.Run.{most_input, EndedBy, GoneOn, RunMayLeave, TookLine, IfBetween, Ran, Came, Served};
+ghost use Rattle.cd_cli.specs.Complete.{turns_at, Completes, TurnsAway};
+ghost use Rattle.cd_cli.specs.Run.{most_input, run_events, EachFits, EndedBy, GoneOn, RunMayLeave, TookLine, IfBetween, Ran, Came, Served};
 ghost use Rattle.cd_cli.specs.Stretch.{standing, HaveTurned, Halted, Went, Finishes};
 
 use crate::flow::{Flow, Last, flow_of};
@@ -292,10 +293,14 @@ pub fn run_node<P: Disk, C: Clock, S: Source, O: Sink>(
     // What it did, and how far it came.
     ensures served { length words.now ≡ 0 → Served P.told C.told S.told O.told (Rose (O.faults out.old) (O.faults out.new)) (C.moment clock.old)
         (P.state journal.old) (P.state journal.new) (S.remaining input.old) (S.remaining input.new) (O.taken out.old) (O.taken out.new) result }
-    // Where no device fails, it does all of an input that isn't longer than what is read at most.
-    ensures complete { length words.now ≡ 0 → P.told → C.told → S.told → O.told → IsFit (P.state journal.old).seen → length (S.remaining input.old) ≤ most_input
+    // On a journal of a legal list, which may have no bytes, it does all of an input that isn't longer than what is read at most,
+    // where each entry fits and no device fails.
+    ensures complete { length words.now ≡ 0 → P.told → C.told → S.told → O.told → (entries : List Entry) → StandsFor (P.state journal.old).seen entries → IsLegal entries
+        → length (S.remaining input.old) ≤ most_input → EachFits entries (turns_at (C.moment clock.old) (run_events (S.remaining input.old)))
         → (Rose (P.faults journal.old) (P.faults journal.new) → ⊥) → (Rose (S.faults input.old) (S.faults input.new) → ⊥) → (Rose (O.faults out.old) (O.faults out.new) → ⊥)
-        → Completes (C.moment clock.old) (P.state journal.old).seen (S.remaining input.old) (O.taken out.old) (O.taken out.new) result }
+        → Completes (C.moment clock.old) entries (S.remaining input.old) (O.taken out.old) (O.taken out.new) result }
+    // On other bytes it tells the first wrong place.
+    ensures unfit { length words.now ≡ 0 → P.told → (IsFit (P.state journal.old).seen → ⊥) → TurnsAway (IsUnfit (P.state journal.old).seen) (Rose (P.faults journal.old) (P.faults journal.new)) result }
     // A fault of a device has its cause in this call, and so has a journal that isn't one.
     ensures reason { length words.now ≡ 0 → EndedBy (Rose (P.faults journal.old) (P.faults journal.new)) (λ at. P.told → IsUnfit (P.state journal.old).seen at) (Rose (S.faults input.old) (S.faults input.new)) (Rose (O.faults out.old) (O.faults out.new)) result }
     // What a crash may leave, at each moment of the call.

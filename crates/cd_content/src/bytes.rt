@@ -1,5 +1,5 @@
 // Edits of bytes within the room that they have, so that none takes memory.
-ghost use Rattle.std.specs.Prelude.{◌≡◌, ◌≤◌, ◌+◌, ◌++◌, max, length, vec_len, vec_capacity, OnOk};
+ghost use Rattle.std.specs.Prelude.{◌≡◌, ◌≤◌, ◌+◌, ◌++◌, max, length, take, drop, replicate, vec_len, vec_capacity, OnOk};
 ghost use Rattle.cd_outside.specs.Content.{overwritten, resized};
 
 use cd_types::NoMemory;
@@ -74,4 +74,28 @@ pub fn write_within(to: &mut Vec<u8>, at: usize, bytes: &[u8])
         resize_within(to, at);
     }
     overwrite_within(to, at, bytes);
+}
+
+/// Makes longer by so many zeros, which stand at that place.
+pub fn open_within(to: &mut Vec<u8>, at: usize, count: usize)
+    requires place { at ≤ vec_len to.old }
+    requires room { vec_len to.old + count ≤ vec_capacity to.old }
+    ensures items { to.new.items ≡ take at to.old.items ++ replicate count 0 ++ drop at to.old.items }
+    ensures room { vec_capacity to.old ≤ vec_capacity to.new }
+{
+    let len = to.len();
+    resize_within(to, len + count);
+    to.copy_within(at..len, at + count);
+    to[at..at + count].fill(0);
+}
+
+/// Takes out so many bytes from that place on.
+pub fn close_within(to: &mut Vec<u8>, at: usize, count: usize)
+    requires { at + count ≤ vec_len to.old }
+    ensures items { to.new.items ≡ take at to.old.items ++ drop (at + count) to.old.items }
+    ensures room { vec_capacity to.old ≤ vec_capacity to.new }
+{
+    let len = to.len();
+    to.copy_within(at + count..len, at);
+    to.truncate(len - count);
 }

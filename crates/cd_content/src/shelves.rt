@@ -1,6 +1,8 @@
-ghost use Rattle.std.specs.Prelude.{◌≡◌, map};
+ghost use Rattle.std.specs.Prelude.{◌≡◌, ◌≤◌, length, map, true};
 ghost use Rattle.cd_content.specs.Left.{left_slot};
+ghost use Rattle.cd_content.specs.Names.{are_ascending, gap_from};
 ghost use Rattle.cd_content.specs.Sound.{AreSound, AreSound-prop};
+ghost use Rattle.cd_content.specs.There.{names_of};
 
 use crate::past::{Past, Undo};
 use crate::slot::Slot;
@@ -14,10 +16,11 @@ pub struct Shelves {
     slots: Vec<Slot>,
     past: Vec<Past>,
     ghost sound: { AreSound slots.items } by { AreSound-prop slots.items },
+    ghost sorted: { are_ascending (names_of slots.items) ≡ true },
 }
 
 impl Shelves {
-    ghost use Rattle.std.specs.Prelude.{◌≡◌, ◌<◌, Some, None, IfOk, OnOk, OnErr, IfSome, option_map, vec_len, vec_capacity};
+    ghost use Rattle.std.specs.Prelude.{◌≡◌, ◌<◌, Some, None, IfOk, OnOk, OnErr, IfSome, option_map, slice_get, vec_len, vec_capacity};
     ghost use Rattle.std.specs.Str.{bytes_eq};
     ghost use Rattle.std.specs.List.{position_from};
     ghost use Rattle.cd_outside.specs.Shelf.{IsShelfImage, WriteFile, CutFile, SyncFile, RemoveFile};
@@ -25,7 +28,8 @@ impl Shelves {
     ghost use Rattle.cd_content.specs.FileImage.{shelf_left_by};
     ghost use Rattle.cd_content.specs.Place.{IsPlace};
     ghost use Rattle.cd_content.specs.Put.{files_put};
-    ghost use Rattle.cd_content.specs.Shelves.{state_in};
+    ghost use Rattle.cd_content.specs.Names.{AreNames};
+    ghost use Rattle.cd_content.specs.Shelves.{state_in, names_in};
 
     /// No files.
     pub fn new(alloc: Global) -> Self
@@ -56,6 +60,23 @@ impl Shelves {
         }
     }
 
+    /// The i-th name, in the order of their bytes, of the files that a read gives.
+    pub fn name(&self, i: usize) -> Option<&[u8]>
+        ensures name { option_map (λ bytes. bytes.now) result ≡ slice_get (names_in self.now) i }
+        ensures names { AreNames (names_in self.now) (state_in self.now).shelf.seen }
+    {
+        let mut left = i;
+        for place in 0..self.slots.len() {
+            if self.slots[place].seen().is_some() {
+                if left == 0 {
+                    return Some(self.slots[place].name());
+                }
+                left -= 1;
+            }
+        }
+        None
+    }
+
     // The place of a name, which is made where there is none.
     fn place(&mut self, name: &[u8]) -> Result<usize, NoMemory>
         ensures place { IfOk result (λ i. IsPlace self.new.slots.items name.now i) }
@@ -68,11 +89,7 @@ impl Shelves {
             None => {}
         }
         let slot = Slot::new(self.alloc, Vec::from_slice(self.alloc, name)?);
-        let i = self
-            .slots
-            .iter()
-            .position(|other| name < other.name())
-            .unwrap_or(self.slots.len());
+        let i = gap(&self.slots, name);
         self.slots.insert(i, slot)?;
         Ok(i)
     }
@@ -168,6 +185,19 @@ impl Shelves {
         leave_all(&mut self.slots, image);
         self.past.clear();
     }
+}
+
+// The place where a name goes.
+fn gap(slots: &[Slot], name: &[u8]) -> usize
+    ensures place { result ≡ gap_from name.now 0 (names_of slots.now) }
+    ensures bound { result ≤ length slots.now }
+{
+    for i in 0..slots.len() {
+        if name < slots[i].name() {
+            return i;
+        }
+    }
+    slots.len()
 }
 
 // Leaves the image of that number of each slot.

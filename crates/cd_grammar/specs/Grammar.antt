@@ -25,7 +25,7 @@ use Rattle.cd_grammar.specs.declared.step.CopyGiven.{CopyGiven}
 use Rattle.cd_grammar.specs.declared.step.Step.{Step}
 use Rattle.cd_grammar.specs.declared.step.Step.TheVariants.{Head, Between, Copy, Group, Run, RunGroup, Submit}
 use Rattle.cd_grammar.specs.Answers.{Answer, Strictness, taken, wanted}
-use Rattle.cd_grammar.specs.Values.{label_in, symbol_in, number_in, relation_in}
+use Rattle.cd_grammar.specs.Values.{label_in, front_label_in, symbol_in, number_in, relation_in}
 use Rattle.cd_grammar.specs.declared.step.Clock.{Clock}
 use Rattle.cd_grammar.specs.Tokens.{place_of}
 use Rattle.cd_grammar.specs.Starts.{day_in, clock_in, half_in, plain_time, half_time, time_in}
@@ -193,7 +193,7 @@ pub data Rest (how : Strictness) : Place → List Token → Reading → Type 0 w
       → Rest how (At r (Run begun w given)) ts all → Rest how (At r (RunGroup begun w given)) (Mark at sign.Close ∷ ts) all
   -- LABEL
   label : {r before all : Reading} {step : Step} {at : ℕ} {k : Key} {word name : List ℕ} {ts : List Token}
-      → ended r step ≡ Some before → taken (how.ranges at) (label_in k word) ≡ Ok name → Rest how (Labelled before at name) ts all
+      → ended r step ≡ Some before → taken (how.ranges at) (front_label_in k word) ≡ Ok name → Rest how (Labelled before at name) ts all
       → Rest how (At r step) (Word at k word ∷ ts) all
   -- COPY ..
   copy : {p : Place} {before all : Reading} {named : Option (ℕ × List ℕ)} {at : ℕ} {word : List ℕ} {ts : List Token}

@@ -70,6 +70,15 @@ is_own _ = false
 unfoldable pub label_in : Key → List ℕ → Answer (List ℕ)
 label_in k word = if is_own k then Wrong else ranged (is_label (upper_case word)) (upper_case word)
 
+-- a reference stands in the word, behind its first byte
+abbrev pub has_reference : List ℕ → Bool
+has_reference [] = false
+has_reference (b ∷ bytes) = list_any (λ c. c == 38) bytes
+
+-- a label in front of a statement, where a word in which a reference stands is none
+unfoldable pub front_label_in : Key → List ℕ → Answer (List ℕ)
+front_label_in k word = if has_reference word then Wrong else label_in k word
+
 -- a symbolic name behind its &: 1 to 17 letters and digits
 unfoldable pub symbol_in : List ℕ → Answer (List ℕ)
 symbol_in [] = Wrong

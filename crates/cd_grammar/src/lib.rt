@@ -23,7 +23,7 @@ pub use starts::{clock_in, day_in, half_in, half_time, named_time, plain_time};
 pub use step::{Begun, Clock, CopyGiven, End, Step, Work};
 pub use token::{Key, Sign, Token};
 pub use values::{
-    disp_in, file_in, hold_in, interval_in, is_command, is_own, is_share, label_in, node_in,
-    number_in, relation_in, restart_in, retain_in, symbol_in,
+    disp_in, file_in, front_label_in, hold_in, interval_in, is_command, is_own, is_share, label_in,
+    node_in, number_in, relation_in, restart_in, retain_in, symbol_in,
 };
 pub use words::{is_word, key_of, sign_of};

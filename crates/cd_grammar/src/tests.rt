@@ -1,6 +1,6 @@
 use crate::{
-    Clock, Key, Lent, Sign, clock_in, day_in, half_in, half_time, interval_in, key_of, label_in,
-    named_time, node_in, number_in, plain_time, sign_of, symbol_in,
+    Clock, Key, Lent, Sign, clock_in, day_in, front_label_in, half_in, half_time, interval_in,
+    key_of, label_in, named_time, node_in, number_in, plain_time, sign_of, symbol_in,
 };
 use cd_ast::FaultName;
 use cd_types::Day;
@@ -132,6 +132,9 @@ fn names_are_read(rt: HostRuntime) {
     assert!(rt; label_in(key_of(b"exit"), b"exit").err() == Some(FaultName::Unexpected));
     assert!(rt; label_in(key_of(b"1A"), b"1A").err() == Some(FaultName::Range));
     assert!(rt; label_in(key_of(b"ckpt"), b"ckpt").is_ok());
+    assert!(rt; front_label_in(key_of(b"x&a"), b"x&a").err() == Some(FaultName::Unexpected));
+    assert!(rt; front_label_in(key_of(b"&a"), b"&a").err() == Some(FaultName::Range));
+    assert!(rt; front_label_in(key_of(b"ckpt"), b"ckpt").is_ok());
     assert!(rt; node_in(b"EXIT").is_ok());
     assert!(rt; node_in(b"A/B").err() == Some(FaultName::Range));
     assert!(rt; symbol_in(&Lent::new(b"&".as_slice())).is_err());

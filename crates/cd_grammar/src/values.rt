@@ -1,10 +1,10 @@
 //! Words and quoted texts as values.
 ghost use Rattle.std.specs.Prelude.{◌≡◌, ◌∷◌, ◌<◌, ◌≤◌, ◌^◌, ◌||◌, ◌==◌, [], length, IsTrue, IfSome, IfNone, true, false};
-ghost use Rattle.std.specs.List.{list_all};
+ghost use Rattle.std.specs.List.{list_all, list_any};
 ghost use Rattle.std.specs.Char.{is_ascii_alphanumeric, is_ascii_digit};
 ghost use Rattle.std.specs.Option.{option_map};
 ghost use Rattle.cd_grammar.specs.Answers.{taken};
-ghost use Rattle.cd_grammar.specs.Values.{is_digits, number_of, number_in, node_in, file_in, is_own, label_in, symbol_in, hold_in, retain_in, restart_in, disp_in, is_share, relation_in, unit_of, units_in, interval_in, is_item, are_items, are_behind, item_len, is_command};
+ghost use Rattle.cd_grammar.specs.Values.{is_digits, number_of, number_in, node_in, file_in, is_own, label_in, has_reference, front_label_in, symbol_in, hold_in, retain_in, restart_in, disp_in, is_share, relation_in, unit_of, units_in, interval_in, is_item, are_items, are_behind, item_len, is_command};
 
 use crate::words::is_word;
 use crate::{Key, Lent};
@@ -132,6 +132,33 @@ pub fn label_in(key: Key, word: &[u8]) -> Result<Label, FaultName>
         Some(label) => Ok(label),
         None => Err(FaultName::Range),
     }
+}
+
+fn has_ampersand(bytes: &[u8]) -> bool
+    ensures { result ≡ list_any (λ c. c == 38) bytes.now }
+{
+    bytes.iter().any(|byte| *byte == b'&')
+}
+
+/// Whether a reference stands in the word, behind its first byte.
+fn has_reference(word: &[u8]) -> bool
+    ensures { result ≡ has_reference word.now }
+{
+    match word.split_first() {
+        None => false,
+        Some((_, bytes)) => has_ampersand(bytes),
+    }
+}
+
+/// A label in front of a statement.
+#[tactic(auto, unfolding(crate::specs::Values::front_label_in))]
+pub fn front_label_in(key: Key, word: &[u8]) -> Result<Label, FaultName>
+    ensures { result ≡ taken true (front_label_in key word.now) }
+{
+    if has_reference(word) {
+        return Err(FaultName::Unexpected);
+    }
+    label_in(key, word)
 }
 
 /// A symbolic name behind its `&`.

@@ -1,3 +1,4 @@
 mod Coming
 mod CutOff
 mod Front
+mod Kept

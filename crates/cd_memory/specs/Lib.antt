@@ -1,10 +1,14 @@
 pub mod Children
+pub mod Ends
 pub mod MemoryDisk
 pub mod MemoryFiles
 pub mod MemoryLines
 pub mod MemorySpawner
 pub mod MemoryStreams
 pub mod SteadyDisk
+pub mod SteadyFiles
+pub mod SteadyLines
+pub mod SteadySpawner
 pub mod SteadyStreams
 pub mod Stops
 pub use Rattle.cd_content.specs.Generator

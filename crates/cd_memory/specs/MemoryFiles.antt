@@ -5,12 +5,16 @@ use Rattle.cd_outside.specs.Counts.{next}
 use Rattle.cd_memory.specs.Stops.{fate_of, is_stopping}
 use Rattle.cd_memory.specs.declared.fate.Fate.{Fate}
 use Rattle.cd_outside.specs.Files.{FilesState}
-use Rattle.cd_content.specs.Shelves.{state_in}
+use Rattle.cd_content.specs.Shelves.{state_in, names_in}
 use Rattle.cd_memory.specs.declared.files.MemoryFiles.{MemoryFiles}
 
 -- what a read gives of each name, and what a crash may leave at each beat
 abbrev pub state_of : MemoryFiles → FilesState
 state_of files = state_in files.shelves
+
+-- the names that have a file, in the order of their bytes
+abbrev pub names_of : MemoryFiles → List (List ℕ)
+names_of files = names_in files.shelves
 
 -- the numbers of the calls that fail
 abbrev pub script_of : MemoryFiles → List ℕ

@@ -17,12 +17,13 @@ pub struct MemoryFiles {
 }
 
 impl MemoryFiles {
-    ghost use Rattle.std.specs.Prelude.{◌≡◌, ◌+◌, ◌++◌, [], ◌∷◌, min, false, true, OnOk, OnErr, IfOk, Some, None, option_map};
+    ghost use Rattle.std.specs.Prelude.{◌≡◌, ◌+◌, ◌++◌, [], ◌∷◌, min, false, true, OnOk, OnErr, IfOk, Some, None, option_map, slice_get};
+    ghost use Rattle.cd_content.specs.Names.{AreNames};
     ghost use Rattle.cd_content.specs.Put.{files_put};
     ghost use Rattle.cd_content.specs.FileImage.{shelf_left_by};
     ghost use Rattle.cd_outside.specs.Shelf.{IsShelfImage};
     ghost use Rattle.cd_outside.specs.Files.{files_at_first};
-    ghost use Rattle.cd_memory.specs.MemoryFiles.{state_of, script_of, calls_of, faults_of, is_starved, stop_of, is_stopped, ChangesState, ChangesScript};
+    ghost use Rattle.cd_memory.specs.MemoryFiles.{state_of, script_of, calls_of, faults_of, is_starved, stop_of, is_stopped, names_of, ChangesState, ChangesScript};
 
     /// No files; the calls of these numbers fail.
     pub fn new(alloc: Global, script: FaultScript) -> Result<Self, NoMemory>
@@ -95,6 +96,14 @@ impl MemoryFiles {
         ensures { option_map (λ bytes. bytes.now) result ≡ (state_of self.now).shelf.seen name.now }
     {
         self.shelves.seen(name)
+    }
+
+    /// The i-th name, in the order of their bytes, of the files that there are.
+    pub fn name(&self, i: usize) -> Option<&[u8]>
+        ensures name { option_map (λ bytes. bytes.now) result ≡ slice_get (names_of self.now) i }
+        ensures names { AreNames (names_of self.now) (state_of self.now).shelf.seen }
+    {
+        self.shelves.name(i)
     }
 }
 

@@ -6,6 +6,7 @@ mod begun;
 mod clock;
 mod count;
 mod disk;
+mod end;
 mod fate;
 mod files;
 mod lines;
@@ -15,6 +16,9 @@ mod sink;
 mod source;
 mod spawner;
 mod steady_disk;
+mod steady_files;
+mod steady_lines;
+mod steady_spawner;
 mod stop;
 mod tally;
 
@@ -28,6 +32,12 @@ pub use sink::{MemorySink, SteadySink};
 pub use source::{MemorySource, SteadySource};
 pub use spawner::MemorySpawner;
 pub use steady_disk::SteadyDisk;
+pub use steady_files::SteadyFiles;
+pub use steady_lines::SteadyLines;
+pub use steady_spawner::SteadySpawner;
+
+#[cfg(test)]
+mod steady_tests;
 
 #[cfg(test)]
 mod tests {
@@ -55,6 +65,9 @@ mod tests {
         assert_eq!(rt; disk.bytes(), [9, 9, 3, 4].as_slice());
         disk.crash(2);
         assert_eq!(rt; disk.bytes(), [170, 136, 3, 4].as_slice());
+        disk.fail(2)?;
+        assert_eq!(rt; disk.len()?, 4);
+        assert!(rt; disk.len().is_err());
         Ok(())
     }
 
@@ -69,6 +82,8 @@ mod tests {
         files.sync(b"a", &mut beat)?;
         files.write_at(b"b", 2, &[9], &mut beat)?;
         assert_eq!(rt; files.get(b"b"), Some([0, 0, 9].as_slice()));
+        assert_eq!(rt; files.name(1), Some(b"b".as_slice()));
+        assert_eq!(rt; files.name(2), None);
         let mut into = [0, 0];
         assert_eq!(rt; files.read(b"b", 2, &mut into)?, 1);
         assert_eq!(rt; files.size(b"c")?, None);
@@ -84,6 +99,7 @@ mod tests {
         assert_eq!(rt; files.get(b"b"), Some([67, 202, 52].as_slice()));
         files.remove(b"a", &mut beat)?;
         assert_eq!(rt; files.get(b"a"), None);
+        assert_eq!(rt; files.name(0), Some(b"b".as_slice()));
         files.crash(0);
         assert_eq!(rt; files.get(b"a"), Some([251, 67, 3, 4].as_slice()));
         Ok(())
@@ -167,11 +183,14 @@ mod tests {
         assert!(rt; source.read(&mut into).is_err());
         assert_eq!(rt; source.read(&mut into)?, 2);
         assert_eq!(rt; into.as_slice(), [5, 6].as_slice());
+        source.fail(1)?;
+        assert!(rt; source.read(&mut into).is_err());
+        assert_eq!(rt; source.read(&mut into)?, 1);
         let mut sink = MemorySink::new(alloc, FaultScript::new(Vec::new(alloc)))?;
         sink.fail(2)?;
         sink.write(&into)?;
         assert!(rt; sink.write(&into).is_err());
-        assert_eq!(rt; sink.bytes(), [5, 6].as_slice());
+        assert_eq!(rt; sink.bytes(), [7, 6].as_slice());
         let mut clock = MemoryClock::new(alloc, FaultScript::new(Vec::new(alloc)))?;
         clock.set(Moment::new(7).ok_or("no moment")?);
         assert_eq!(rt; clock.now().seconds(), 7);

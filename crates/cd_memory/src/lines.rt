@@ -287,7 +287,7 @@ fn has_come(exchange: &Exchange, after: Option<(u64, u64)>) -> bool
 }
 
 // The place of a session's first piece that has bytes left.
-fn find(pieces: &[Piece], session: u64) -> Option<usize>
+pub(crate) fn find(pieces: &[Piece], session: u64) -> Option<usize>
     ensures place { result ≡ position_from (is_left_of_session session) 0 pieces.now }
     ensures bound { IfSome result (λ i. i < length pieces.now) }
 {

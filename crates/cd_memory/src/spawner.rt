@@ -76,11 +76,11 @@ impl MemorySpawner {
 }
 
 impl Spawner for MemorySpawner {
-    ghost use Rattle.std.specs.Prelude.{◌≡◌, ◌≤◌, map, true, false, IsOk, IsErr, OnOk, OnErr};
+    ghost use Rattle.std.specs.Prelude.{◌≡◌, ◌≤◌, ◌+◌, length, min, map, true, false, IsOk, IsErr, OnOk, OnErr};
     ghost use Rattle.cd_outside.specs.Counts.{next, Rose};
     ghost use Rattle.cd_outside.specs.Spawner.{with_run, with_start, OnFailed};
     ghost use Rattle.cd_memory.specs.Children.{child_of};
-    ghost use Rattle.cd_memory.specs.MemorySpawner.{children_of, spawner_script, spawner_calls, spawner_faults, is_spawner_starved, coming_outcome, spawner_fails_next};
+    ghost use Rattle.cd_memory.specs.MemorySpawner.{children_of, spawner_script, spawner_calls, spawner_faults, is_spawner_starved, outcomes_of, used_of, coming_outcome, spawner_fails_next};
     ghost use Rattle.cd_outside.specs.declared.spawner.Outcome.TheVariants as outcome;
 
     ghost told = { Unit {0} };
@@ -94,6 +94,7 @@ impl Spawner for MemorySpawner {
         ensures later { spawner_faults self.old ≤ spawner_faults self.new }
         ensures cause { OnFailed result (Rose (spawner_faults self.old) (spawner_faults self.new)) }
         ensures counted { (spawner_script self.new ≡ spawner_script self.old) × (spawner_calls self.new ≡ next (spawner_calls self.old)) }
+        ensures used { (outcomes_of self.new ≡ outcomes_of self.old) × (used_of self.new ≡ min (used_of self.old + 1) (length (outcomes_of self.old))) }
         ensures fails { spawner_fails_next self.old ≡ true → result ≡ outcome.Failed }
         ensures goes { spawner_fails_next self.old ≡ false → is_spawner_starved self.new ≡ false → result ≡ coming_outcome self.old }
     {
@@ -124,6 +125,7 @@ impl Spawner for MemorySpawner {
         ensures later { spawner_faults self.old ≤ spawner_faults self.new }
         ensures cause { OnErr result (Rose (spawner_faults self.old) (spawner_faults self.new)) }
         ensures counted { (spawner_script self.new ≡ spawner_script self.old) × (spawner_calls self.new ≡ next (spawner_calls self.old)) }
+        ensures used { (outcomes_of self.new ≡ outcomes_of self.old) × (used_of self.new ≡ min (used_of self.old + 1) (length (outcomes_of self.old))) }
         ensures fails { spawner_fails_next self.old ≡ true → IsErr result }
         ensures refused { coming_outcome self.old ≡ outcome.Failed → IsErr result }
         ensures goes { spawner_fails_next self.old ≡ false → is_spawner_starved self.new ≡ false → IsErr result → coming_outcome self.old ≡ outcome.Failed }

@@ -1,5 +1,5 @@
 -- What a session knows of its Process and its step, and what its end records.
-use Rattle.std.specs.Prelude.{ℕ, List, [], ◌∷◌, ◌++◌, Bool, ◌&&◌, Option, Some, None, if◌then◌else◌}
+use Rattle.std.specs.Prelude.{ℕ, List, [], ◌∷◌, ◌++◌, Bool, ◌&&◌, nat_lt, Option, Some, None, if◌then◌else◌}
 use Rattle.cd_types.specs.declared.choices.Cause.TheVariants as cause
 use Rattle.cd_types.specs.declared.choices.Side.TheVariants as side
 use Rattle.cd_types.specs.declared.key.Key.{Key}
@@ -71,7 +71,7 @@ close desk now phase = retry_own desk now (own_number phase) ++ Go Gone [] ∷ [
 -- a file couldn't be asked or changed: the partner is told, and then the session is lost
 abbrev pub trouble_for : Option Key → List Message
 trouble_for None = []
-trouble_for (Some key) = message.Abort key cause.Trouble ∷ []
+trouble_for (Some key) = if nat_lt key.place 1024 then message.Abort key cause.Trouble ∷ [] else []
 
 abbrev pub trouble : Desk → ℕ → Phase → List Deed
 trouble desk now phase = Go phase (trouble_for (key_under_way phase)) ∷ close desk now phase

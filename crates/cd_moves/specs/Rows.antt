@@ -1,7 +1,7 @@
 -- What a node does with what happens in a session: for each phase, the part of a row for each frame, and then what comes
 -- behind it. A frame that has no row closes the session.
 use Rattle.std.specs.Prelude.{ℕ, zero, suc, List, [], ◌∷◌, ◌++◌, length, min, Bool, true, false, not, ◌&&◌, ◌||◌, ◌==◌, nat_le, nat_lt, Option, Some, None, if◌then◌else◌}
-use Rattle.std.specs.List.{filter_map}
+use Rattle.std.specs.List.{filter_map, list_all}
 use Rattle.std.specs.Str.{bytes_eq}
 use Rattle.cd_types.specs.Choices.{is_kept}
 use Rattle.cd_types.specs.FileName.{is_file_name}
@@ -22,6 +22,7 @@ use Rattle.cd_entries.specs.declared.entry.Entry.{Entry}
 use Rattle.cd_entries.specs.declared.entry.Entry.TheVariants as entry
 use Rattle.cd_ast.specs.declared.process.What.{What}
 use Rattle.cd_ast.specs.declared.process.What.TheVariants as what
+use Rattle.cd_frames.specs.Frame.{is_block, is_piece, is_abort}
 use Rattle.cd_frames.specs.Message as message
 use Rattle.cd_frames.specs.Message.{Message}
 use Rattle.cd_frames.specs.declared.frame.Hello.{Hello}
@@ -47,7 +48,7 @@ use Rattle.cd_moves.specs.Closing.{own_number, key_under_way, is_running, close,
 use Rattle.cd_moves.specs.Sending.{send_from, piece_read, piece_len, interval_of, source_known, ended, next}
 use Rattle.cd_moves.specs.Receiving.{undone, given_up, receive, target_known, is_piece_at, take_piece, land, drop_back, gives_up}
 
--- A part whose entry may not follow closes the session, before any of its deeds.
+-- A part whose entry may not follow, or whose frames aren't in their form, closes the session, before any of its deeds.
 
 -- it isn't of a later moment
 abbrev pub is_by : ℕ → Option ℕ → Bool
@@ -68,11 +69,31 @@ is_formed (entry.Closed number how moment) = true
 is_formed (entry.Forgot name home number) = true
 is_formed (entry.Dropped step rc why moment) = nat_lt step.place 1024 && is_kept why
 
+-- a frame that a row sends is in its form too: a place is one of 1,024, a file has a name of its form, a block and a piece have 1
+-- to 65,536 bytes, and a cause is one that is told so. No row sends the others yet.
+unfoldable pub is_sendable : Message → Bool
+is_sendable (message.Hello greeting) = is_block greeting.block
+is_sendable (message.Welcome greeting) = is_block greeting.block
+is_sendable (message.Reject why) = false
+is_sendable (message.StepCopyTo step name disp interval len) = nat_lt step.place 1024 && is_file_name name
+is_sendable (message.StepCopyFrom step name interval) = nat_lt step.place 1024 && is_file_name name
+is_sendable (message.StepTask step kind command) = false
+is_sendable (message.StepSubmit step name snode prty symbols) = false
+is_sendable (message.Ready step offset) = nat_lt step.place 1024
+is_sendable (message.Length step len) = nat_lt step.place 1024
+is_sendable (message.Data step offset bytes) = nat_lt step.place 1024 && is_piece bytes
+is_sendable (message.Ack step offset) = nat_lt step.place 1024
+is_sendable (message.End step len) = nat_lt step.place 1024
+is_sendable (message.Result step o) = nat_lt step.place 1024 && is_kept o.cause
+is_sendable (message.Abort step why) = nat_lt step.place 1024 && is_abort why
+is_sendable (message.Forget home n) = true
+is_sendable message.Bye = true
+
 -- it may follow the journal at this moment, and is in its form
 abbrev pub may_record : Reading → ℕ → List Entry → Entry → Bool
 may_record read now journal e = allowed read journal e && is_by now (moment_of e) && is_formed e
 
--- each entry may follow those before it, at this moment
+-- each entry may follow those before it, at this moment, and each frame is in its form
 abbrev pub are_allowed : Reading → ℕ → List Entry → List Deed → Bool
 are_allowed read now journal [] = true
 are_allowed read now journal (Keep e ∷ deeds) = may_record read now journal e && are_allowed read now (e ∷ journal) deeds
@@ -80,7 +101,7 @@ are_allowed read now journal (Touch change ∷ deeds) = are_allowed read now jou
 are_allowed read now journal (AskSize name ∷ deeds) = are_allowed read now journal deeds
 are_allowed read now journal (AskBytes name at len ∷ deeds) = are_allowed read now journal deeds
 are_allowed read now journal (Begin key phase ∷ deeds) = are_allowed read now journal deeds
-are_allowed read now journal (Go phase frames ∷ deeds) = are_allowed read now journal deeds
+are_allowed read now journal (Go phase frames ∷ deeds) = list_all is_sendable frames && are_allowed read now journal deeds
 
 abbrev pub checked : Desk → ℕ → Phase → Part → Part
 checked desk now phase part = if are_allowed desk.config.read now desk.journal part.deeds then part else only (close desk now phase)

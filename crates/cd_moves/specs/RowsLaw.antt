@@ -3,9 +3,10 @@ use Rattle.std.proofs.Common.{◌≡◌, ℕ, zero, suc, ◌+◌, ◌≤◌, Boo
 use Rattle.std.proofs.Math.Nat.{max-le, min-le_right}
 use Rattle.std.proofs.lemmas.List.{append-nil}
 use Rattle.std.specs.Prelude.{◌||◌, not, nat_lt, filter}
-use Rattle.std.specs.List.{list_any, cons_option, filter_map}
+use Rattle.std.specs.List.{list_any, list_all, cons_option, filter_map}
 use Rattle.std.proofs.lemmas.Bool.{cases_Bool, and_parts, and_from, or_cases, or_left, or_right, le-leb, leb-true, lt-ltb, eq-eqb, cond-true, cond-false, false≢true}
 use Rattle.cd_types.specs.Format.{◌>>=◌}
+use Rattle.cd_types.specs.declared.choices.Cause.TheVariants as cause
 use Rattle.cd_types.specs.declared.choices.Queue.{Queue}
 use Rattle.cd_types.specs.declared.choices.Queue.TheVariants as queue
 use Rattle.cd_types.specs.declared.choices.Reason.TheVariants as reason
@@ -13,6 +14,9 @@ use Rattle.cd_types.specs.declared.rows.Placing.{Placing}
 use Rattle.cd_types.specs.declared.rows.Row.{Row}
 use Rattle.cd_entries.specs.declared.entry.Entry.{Entry}
 use Rattle.cd_entries.specs.declared.entry.Entry.TheVariants as entry
+use Rattle.cd_types.specs.declared.key.Key.{Key}
+use Rattle.cd_frames.specs.Frame.{is_abort}
+use Rattle.cd_frames.specs.Message as message
 use Rattle.cd_frames.specs.Message.{Message}
 use Rattle.cd_status.specs.Processes.{Submission, submission, is_live, live_numbers, moment_of, later_of, latest}
 use Rattle.cd_status.specs.Queue.{Waits, placing, queue_of, queue_at, runs_in, is_due, goes_before, the_earlier, choice, row_made, row_of, rows, next_due, retried, after_wait, after_attempts}
@@ -20,13 +24,13 @@ use Rattle.cd_legal.specs.Legal.{allowed, is_legal, is_empty, may_place, is_reas
 use Rattle.cd_legal.specs.PlacingsLaw.{well_placed}
 use Rattle.cd_legal.specs.Promises.{HavePriorities, WellPlaced}
 use Rattle.cd_legal.specs.Steps.{Reading, runs_itself}
-use Rattle.cd_moves.specs.Closing.{own_number, key_under_way, is_running, waits_for, retry, retry_own, close, trouble}
+use Rattle.cd_moves.specs.Closing.{own_number, key_under_way, is_running, waits_for, retry, retry_own, close, trouble_for, trouble}
 use Rattle.cd_moves.specs.declared.session.Phase.{Phase}
 use Rattle.cd_moves.specs.declared.session.Phase.TheVariants.{Gone}
 use Rattle.cd_moves.specs.declared.session.Then.{Then}
 use Rattle.cd_moves.specs.declared.session.Then.TheVariants.{Done, Next, Undo, Push, Offered, Onto, Piece}
 use Rattle.cd_moves.specs.Node.{Config, Desk, Sessions, Node, Deed, Keep, Touch, AskSize, AskBytes, Begin, Go, Part, only, did, does, Answers}
-use Rattle.cd_moves.specs.Rows.{is_by, is_formed, may_record, are_allowed, checked, part_in, first_part, part_behind, asked, is_done, all_parts, most_parts, row, row_accept, row_end, row_trouble, is_dead, is_detached, place_in, connect, call, row_chosen, row_choose, busy}
+use Rattle.cd_moves.specs.Rows.{is_by, is_formed, is_sendable, may_record, are_allowed, checked, part_in, first_part, part_behind, asked, is_done, all_parts, most_parts, row, row_accept, row_end, row_trouble, is_dead, is_detached, place_in, connect, call, row_chosen, row_choose, busy}
 use Rattle.cd_moves.specs.Promises.{IsLegalAfter, StaysLegal}
 
 -- A journal into which a row was recorded.
@@ -73,7 +77,7 @@ part_legal sid now (Touch change ∷ done) more node legal fits = part_legal sid
 part_legal sid now (AskSize name ∷ done) more node legal fits = part_legal sid now done more node legal fits
 part_legal sid now (AskBytes name at len ∷ done) more node legal fits = part_legal sid now done more node legal fits
 part_legal sid now (Begin key phase ∷ done) more node legal fits = part_legal sid now done more (did sid (Begin key phase) node) legal fits
-part_legal sid now (Go phase frames ∷ done) more node legal fits = part_legal sid now done more (did sid (Go phase frames) node) legal fits
+part_legal sid now (Go phase frames ∷ done) more node legal fits = part_legal sid now done more (did sid (Go phase frames) node) legal (and_parts (list_all is_sendable frames) _ fits).1
 
 -- one without a later moment
 part_on_time : (sid now : ℕ) (done more : List Deed) (node : Node) → latest node.desk.journal ≤ now
@@ -86,10 +90,10 @@ part_on_time sid now (Touch change ∷ done) more node early fits = part_on_time
 part_on_time sid now (AskSize name ∷ done) more node early fits = part_on_time sid now done more node early fits
 part_on_time sid now (AskBytes name at len ∷ done) more node early fits = part_on_time sid now done more node early fits
 part_on_time sid now (Begin key phase ∷ done) more node early fits = part_on_time sid now done more (did sid (Begin key phase) node) early fits
-part_on_time sid now (Go phase frames ∷ done) more node early fits = part_on_time sid now done more (did sid (Go phase frames) node) early fits
+part_on_time sid now (Go phase frames ∷ done) more node early fits = part_on_time sid now done more (did sid (Go phase frames) node) early (and_parts (list_all is_sendable frames) _ fits).1
 
 -- and one that has the earlier one behind it
-part_extends : (sid : ℕ) (done : List Deed) (node : Node) → (later : List Entry) × ((does sid done node).desk.journal ≡ later ++ node.desk.journal)
+pub part_extends : (sid : ℕ) (done : List Deed) (node : Node) → (later : List Entry) × ((does sid done node).desk.journal ≡ later ++ node.desk.journal)
 part_extends sid [] node = ([], refl)
 part_extends sid (Keep e ∷ done) node =
     let rest = part_extends sid done (did sid (Keep e) node) in
@@ -104,7 +108,7 @@ part_extends sid (Begin key phase ∷ done) node = part_extends sid done (did si
 part_extends sid (Go phase frames ∷ done) node = part_extends sid done (did sid (Go phase frames) node)
 
 -- the texts are read as before
-same_config : (sid : ℕ) (done : List Deed) (node : Node) → (does sid done node).desk.config ≡ node.desk.config
+pub same_config : (sid : ℕ) (done : List Deed) (node : Node) → (does sid done node).desk.config ≡ node.desk.config
 same_config sid [] node = refl
 same_config sid (Keep e ∷ done) node = same_config sid done (did sid (Keep e) node)
 same_config sid (Touch change ∷ done) node = same_config sid done (did sid (Touch change) node)
@@ -124,7 +128,9 @@ both_fit sid now read (Touch change ∷ first) second node fits more = both_fit 
 both_fit sid now read (AskSize name ∷ first) second node fits more = both_fit sid now read first second node fits more
 both_fit sid now read (AskBytes name at len ∷ first) second node fits more = both_fit sid now read first second node fits more
 both_fit sid now read (Begin key phase ∷ first) second node fits more = both_fit sid now read first second (did sid (Begin key phase) node) fits more
-both_fit sid now read (Go phase frames ∷ first) second node fits more = both_fit sid now read first second (did sid (Go phase frames) node) fits more
+both_fit sid now read (Go phase frames ∷ first) second node fits more =
+    let parts = and_parts (list_all is_sendable frames) _ fits in
+    and_from (list_all is_sendable frames) _ parts.0 (both_fit sid now read first second (did sid (Go phase frames) node) parts.1 more)
 
 -- A Process that is placed anew.
 
@@ -170,6 +176,18 @@ retried_formed : (waits : Waits) (now : ℕ) (placed : Placing) (n : ℕ) → is
 unfolding is_formed
 retried_formed waits now placed n = due_formed waits now (min (placed.attempts + 1) 65535) placed.prty
 
+abort_sends : (key : Key) → nat_lt key.place 1024 ≡ true → is_sendable (message.Abort key cause.Trouble) ≡ true
+unfolding is_sendable is_abort
+abort_sends key low = and_from (nat_lt key.place 1024) true low refl
+
+sends_if : (b : Bool) (m : Message) → (b ≡ true → is_sendable m ≡ true) → list_all is_sendable (cond b (m ∷ []) []) ≡ true
+sends_if true m sends = and_from (is_sendable m) true (sends refl) refl
+sends_if false m sends = refl
+
+trouble_sends : (key : Option Key) → list_all is_sendable (trouble_for key) ≡ true
+trouble_sends None = refl
+trouble_sends (Some key) = sends_if (nat_lt key.place 1024) (message.Abort key cause.Trouble) (abort_sends key)
+
 hold_formed : (n now : ℕ) (placed : Placing) → is_formed (place_in n now queue.Hold reason.UnknownNode placed) ≡ true
 unfolding is_formed
 hold_formed n now placed = refl
@@ -214,15 +232,15 @@ module _ (desk : Desk) (priorities : HavePriorities desk.config.read) (legal : i
             (sym (cond-false (is_live desk.journal n && is_running now placed) _ [] rests)) plain
       ]
 
-  end_fits : (own : Option ℕ) (frames : List Message) → are_allowed desk.config.read now desk.journal (retry_own desk now own ++ Go Gone frames ∷ []) ≡ true
-  end_fits None frames = refl
-  end_fits (Some n) frames = retry_fits n (placing desk.journal n) (Go Gone frames) refl refl (λ _. refl)
+  end_fits : (own : Option ℕ) → are_allowed desk.config.read now desk.journal (retry_own desk now own ++ Go Gone [] ∷ []) ≡ true
+  end_fits None = refl
+  end_fits (Some n) = retry_fits n (placing desk.journal n) (Go Gone []) refl refl (λ _. refl)
 
   close_fits : (phase : Phase) → are_allowed desk.config.read now desk.journal (close desk now phase) ≡ true
-  close_fits phase = end_fits (own_number phase) []
+  close_fits phase = end_fits (own_number phase)
 
   trouble_fits : (phase : Phase) → are_allowed desk.config.read now desk.journal (trouble desk now phase) ≡ true
-  trouble_fits phase = close_fits phase
+  trouble_fits phase = and_from (list_all is_sendable (trouble_for (key_under_way phase))) _ (trouble_sends (key_under_way phase)) (close_fits phase)
 
   -- a part whose entries may follow, or else the end
   checked_fits : (phase : Phase) (part : Part) → are_allowed desk.config.read now desk.journal (checked desk now phase part).deeds ≡ true
@@ -405,24 +423,42 @@ module _ (desk : Desk) (priorities : HavePriorities desk.config.read) (legal : i
       and_from _ _ (and_from _ _ (and_from _ _ (and_from _ _ live refl) (le-leb 1 placed.prty well.low)) (le-leb placed.prty 15 well.high)) (or_right (runs_itself desk.journal n) true refl) in
       and_from _ _ (and_from _ _ (not_empty desk.journal n live) (le-leb (latest desk.journal) now on_time)) place
 
-  call_fits : (row : Row) (waits : Option Waits) (connected : Bool) → MayRun desk.journal now row → are_allowed desk.config.read now desk.journal (call desk now connected row waits) ≡ true
-  call_fits row None connected may =
+  held_fits : (row : Row) → MayRun desk.journal now row → are_allowed desk.config.read now desk.journal (call desk now true row None) ≡ true
+  held_fits row may =
       let e : Entry = place_in row.number now queue.Hold reason.UnknownNode row.placing in
       kept_fits desk.config.read now desk.journal e []
       (of_now desk.config.read now desk.journal e refl (hold_allowed row.number row.placing may.live_row.placed may.live_row.live) (hold_formed row.number now row.placing)) refl
-  call_fits row (Some waits) true may = refl
-  call_fits row (Some waits) false may =
+
+  failed_fits : (row : Row) (waits : Waits) → MayRun desk.journal now row → are_allowed desk.config.read now desk.journal (connect desk now row waits false) ≡ true
+  failed_fits row waits may =
       let e : Entry = entry.Placed row.number (retried waits now row.placing) now in
       kept_fits desk.config.read now desk.journal e []
       (of_now desk.config.read now desk.journal e refl (retry_allowed desk priorities legal now on_time row.number row.placing waits may.live_row.placed may.live_row.live may.runs) (retried_formed waits now row.placing row.number)) refl
 
-  chosen_fits : (chosen : Option Row) (connected : Bool) → OfChosen desk.journal now chosen → are_allowed desk.config.read now desk.journal (row_chosen desk now connected chosen) ≡ true
-  chosen_fits None connected of_chosen = refl
-  chosen_fits (Some row) connected of_chosen = call_fits row (desk.config.partner row.snode) connected of_chosen
+-- a deed that records nothing leaves the journal
+go_stays : (sid now : ℕ) (node : Node) (phase : Phase) (frames : List Message) → is_legal node.desk.config.read node.desk.journal ≡ true → latest node.desk.journal ≤ now
+    → StaysLegal sid now node (Go phase frames ∷ [])
+go_stays sid now node phase frames legal early [] more split = record { legal = legal; later = []; extends = refl; on_time = early }
+go_stays sid now node phase frames legal early (Go phase2 frames2 ∷ []) more split = record { legal = legal; later = []; extends = refl; on_time = early }
+go_stays sid now node phase frames legal early (Go phase2 frames2 ∷ deed ∷ done) more split = absurd cc
+go_stays sid now node phase frames legal early (Keep e ∷ done) more split = absurd cc
+go_stays sid now node phase frames legal early (Touch change ∷ done) more split = absurd cc
+go_stays sid now node phase frames legal early (AskSize name ∷ done) more split = absurd cc
+go_stays sid now node phase frames legal early (AskBytes name at len ∷ done) more split = absurd cc
+go_stays sid now node phase frames legal early (Begin key phase2 ∷ done) more split = absurd cc
+
+module _ (node : Node) (priorities : HavePriorities node.desk.config.read) (legal : is_legal node.desk.config.read node.desk.journal ≡ true) (sid now : ℕ) (early : latest node.desk.journal ≤ now) where
+  call_stays : (row : Row) (waits : Option Waits) (connected : Bool) → MayRun node.desk.journal now row → StaysLegal sid now node (call node.desk now connected row waits)
+  call_stays row None connected may = stays sid now node _ legal early (held_fits node.desk priorities legal now early row may)
+  call_stays row (Some waits) true may = go_stays sid now node _ _ legal early
+  call_stays row (Some waits) false may = stays sid now node _ legal early (failed_fits node.desk priorities legal now early row waits may)
+
+  chosen_stays : (chosen : Option Row) (connected : Bool) → OfChosen node.desk.journal now chosen → StaysLegal sid now node (row_chosen node.desk now connected chosen)
+  chosen_stays None connected of_chosen = stays sid now node [] legal early refl
+  chosen_stays (Some row) connected of_chosen = call_stays row (node.desk.config.partner row.snode) connected of_chosen
 
 pub row_choose_stays : (node : Node) → HavePriorities node.desk.config.read → (sid now : ℕ) (sessions : Sessions) (connected : Bool)
     → is_legal node.desk.config.read node.desk.journal ≡ true → latest node.desk.journal ≤ now → StaysLegal sid now (record node { sessions = sessions }) (row_choose node now connected)
 row_choose_stays node priorities sid now sessions connected legal early =
-    stays sid now (record node { sessions = sessions }) (row_choose node now connected) legal early
-    (chosen_fits node.desk priorities legal now early (next_due node.desk.journal now (busy node.sessions)) connected
-    (choice_runs node.desk.journal now (busy node.sessions) (rows node.desk.journal) (live_rows node.desk.journal (live_numbers node.desk.journal) (all_live node.desk.journal))))
+    chosen_stays (record node { sessions = sessions }) priorities legal sid now early (next_due node.desk.journal now (busy node.sessions)) connected
+    (choice_runs node.desk.journal now (busy node.sessions) (rows node.desk.journal) (live_rows node.desk.journal (live_numbers node.desk.journal) (all_live node.desk.journal)))

@@ -1,2 +1,7 @@
-pub mod Sound
-pub mod Starts
+pub mod Commas
+pub mod Firsts
+pub mod Marks
+pub mod Pairs
+pub mod Places
+pub mod Told
+pub mod Turns

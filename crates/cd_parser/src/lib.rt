@@ -1,8 +1,16 @@
-//! The machine with which texts of the Process language will be read, token by token, and what it has to do with the grammar.
+//! Reads texts of the Process language.
 #![tactic(auto)]
 
-mod law;
-mod state;
+mod classify;
+mod cursor;
+mod fault;
+mod late;
+mod leaf;
+mod reader;
+mod statement;
+mod texts;
+mod turn;
+mod value;
 
-pub use law::law_of_machine;
-pub use state::State;
+pub use fault::ParseFault;
+pub use texts::{parse, parse_plain};

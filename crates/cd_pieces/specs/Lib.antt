@@ -1,2 +1,4 @@
+pub mod CountLaw
 pub mod Piece
 pub mod PieceLaw
+pub mod Sending

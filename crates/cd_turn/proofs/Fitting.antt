@@ -10,6 +10,10 @@ pub on_ok : {A E : Type 0} (r : Result A E) (P Q : Type 0) → (P → Q) → OnO
 on_ok (Ok x) P Q step h = step h
 on_ok (Err e) P Q step h = tt
 
+pub ok_any : {A E : Type 0} (r : Result A E) (P : Type 0) → P → OnOk r P
+ok_any (Ok x) P h = h
+ok_any (Err e) P h = tt
+
 pub on_disk : {A : Type 0} (r : Result A JournalFault) (P Q : Type 0) → (P → Q) → OnDisk r P → OnDisk r Q
 on_disk (Ok x) P Q step h = tt
 on_disk (Err fault.Disk) P Q step h = step h

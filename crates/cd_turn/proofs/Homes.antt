@@ -10,7 +10,7 @@ use Rattle.cd_journal.specs.Bytes.{Listing, header, list_of}
 use Rattle.cd_journal.specs.Journal.{Held, Opens, IsAt, with_last, IsBeforeOrAfter}
 use Rattle.cd_journal.proofs.Fronts.{list_of-closed, front_header}
 use Rattle.cd_entries.specs.declared.entry.Entry.{Entry}
-use Rattle.cd_entries.specs.Entry.{entry_bytes}
+use Rattle.cd_entries.specs.Entry.{entry_bytes, IsEntry}
 use Rattle.cd_turn.specs.Home.{HomeState, StandsFor, IsHome, KeepsEntries}
 use Rattle.cd_turn.specs.Legal.{IsNext, IsLegal}
 use Rattle.cd_turn.specs.Ends.{MayLeave}
@@ -77,10 +77,10 @@ unchanged home disk from e is order =
     (λ image left. inl (ap list_of (settled_image disk.seen image (subst (λ (d : Doubt). IsImage d image) is.rests left)) ∙ is.list))
 
 -- a list that the entry may follow, with it or without it, keeps the list
-pub keeps_image : (entries : List Entry) (e : Entry) (image : List ℕ) → IsLegal entries → IsNext entries e → StandsFor image entries ⊎ StandsFor image (entries ++ e ∷ []) → KeepsEntries entries image
-keeps_image entries e image legal next left = ⊎_elim
+pub keeps_image : (entries : List Entry) (e : Entry) (image : List ℕ) → IsLegal entries → IsEntry e → IsNext entries e → StandsFor image entries ⊎ StandsFor image (entries ++ e ∷ []) → KeepsEntries entries image
+keeps_image entries e image legal form next left = ⊎_elim
     (λ same. record { list = entries; stands = same; legal = legal; extends = ([], sym (append-nil entries)) })
-    (λ more. record { list = entries ++ e ∷ []; stands = more; legal = legal_push entries e legal next; extends = (e ∷ [], refl) })
+    (λ more. record { list = entries ++ e ∷ []; stands = more; legal = legal_push entries e legal form next; extends = (e ∷ [], refl) })
     left
 
 -- nothing was done in a turn

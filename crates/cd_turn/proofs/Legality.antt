@@ -5,32 +5,33 @@ use Rattle.std.specs.List.{list_any}
 use Rattle.std.proofs.lemmas.List.{append-nil}
 use Rattle.cd_entries.specs.declared.entry.Entry.{Entry}
 use Rattle.cd_entries.specs.declared.entry.Entry.TheVariants as entry
+use Rattle.cd_entries.specs.Entry.{IsEntry}
 use Rattle.cd_turn.specs.Entries.{is_submission, submitted_in, closes, is_live, live_in}
 use Rattle.cd_turn.specs.Legal.{IsNext, FollowLegally, IsLegal, Extends}
 
 -- one entry more
-pub follow_push : (before entries : List Entry) (e : Entry) → FollowLegally before entries → IsNext (before ++ entries) e → FollowLegally before (entries ++ e ∷ [])
-follow_push before [] e follows next = (subst (λ (l : List Entry). IsNext l e) (append-nil before) next, tt)
-follow_push before (first ∷ entries) e follows next =
-    (follows.0, follow_push (before ++ first ∷ []) entries e follows.1 (subst (λ (l : List Entry). IsNext l e) (sym (append_assoc before (first ∷ []) entries)) next))
+pub follow_push : (before entries : List Entry) (e : Entry) → FollowLegally before entries → IsEntry e → IsNext (before ++ entries) e → FollowLegally before (entries ++ e ∷ [])
+follow_push before [] e follows form next = (form, subst (λ (l : List Entry). IsNext l e) (append-nil before) next, tt)
+follow_push before (first ∷ entries) e follows form next =
+    (follows.0, follows.1, follow_push (before ++ first ∷ []) entries e follows.2 form (subst (λ (l : List Entry). IsNext l e) (sym (append_assoc before (first ∷ []) entries)) next))
 
-pub legal_push : (entries : List Entry) (e : Entry) → IsLegal entries → IsNext entries e → IsLegal (entries ++ e ∷ [])
-legal_push entries e legal next = follow_push [] entries e legal next
+pub legal_push : (entries : List Entry) (e : Entry) → IsLegal entries → IsEntry e → IsNext entries e → IsLegal (entries ++ e ∷ [])
+legal_push entries e legal form next = follow_push [] entries e legal form next
 
 -- no entry of a legal list closes a Process
 none_closes : (n : ℕ) (before entries : List Entry) → FollowLegally before entries → list_any (closes n) entries ≡ false
 none_closes n before [] follows = refl
-none_closes n before (entry.Home name home ∷ entries) follows = none_closes n (before ++ entry.Home name home ∷ []) entries follows.1
-none_closes n before (entry.Submitted number moment origin card text ∷ entries) follows = none_closes n (before ++ entry.Submitted number moment origin card text ∷ []) entries follows.1
-none_closes n before (entry.Placed number placing moment ∷ entries) follows = absurd follows.0
-none_closes n before (entry.Started key kind attempt moment ∷ entries) follows = absurd follows.0
-none_closes n before (entry.Receiving receiving ∷ entries) follows = absurd follows.0
-none_closes n before (entry.Mark key offset ∷ entries) follows = absurd follows.0
-none_closes n before (entry.Result key outcomes moment ∷ entries) follows = absurd follows.0
-none_closes n before (entry.Ended number place rc cause bytes moment ∷ entries) follows = absurd follows.0
-none_closes n before (entry.Closed number how moment ∷ entries) follows = absurd follows.0
-none_closes n before (entry.Forgot name home number ∷ entries) follows = absurd follows.0
-none_closes n before (entry.Dropped key rc cause moment ∷ entries) follows = absurd follows.0
+none_closes n before (entry.Home name home ∷ entries) follows = none_closes n (before ++ entry.Home name home ∷ []) entries follows.2
+none_closes n before (entry.Submitted number moment origin card text ∷ entries) follows = none_closes n (before ++ entry.Submitted number moment origin card text ∷ []) entries follows.2
+none_closes n before (entry.Placed number placing moment ∷ entries) follows = absurd follows.1
+none_closes n before (entry.Started key kind attempt moment ∷ entries) follows = absurd follows.1
+none_closes n before (entry.Receiving receiving ∷ entries) follows = absurd follows.1
+none_closes n before (entry.Mark key offset ∷ entries) follows = absurd follows.1
+none_closes n before (entry.Result key outcomes moment ∷ entries) follows = absurd follows.1
+none_closes n before (entry.Ended number place rc cause bytes moment ∷ entries) follows = absurd follows.1
+none_closes n before (entry.Closed number how moment ∷ entries) follows = absurd follows.1
+none_closes n before (entry.Forgot name home number ∷ entries) follows = absurd follows.1
+none_closes n before (entry.Dropped key rc cause moment ∷ entries) follows = absurd follows.1
 
 -- so a submission of it is live
 live_is : (entries : List Entry) → ((n : ℕ) → list_any (closes n) entries ≡ false) → (e : Entry) → is_live entries e ≡ is_submission e

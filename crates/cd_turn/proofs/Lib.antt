@@ -13,3 +13,6 @@ pub mod Adding
 pub mod Lengths
 pub mod Fitting
 pub mod Commands
+pub mod BodyBytes
+pub mod Deciding
+pub mod Fit

@@ -32,6 +32,10 @@ pub record KeepsEntries (entries : List Entry) (bytes : List ℕ) : Type 0 where
   pub legal : IsLegal list
   pub extends : Extends entries list
 
+-- the bytes are a journal of a legal list; where there are none, it is the list without entries
+abbrev pub IsFit : List ℕ → Type 0
+IsFit bytes = (entries : List Entry) × StandsFor bytes entries × IsLegal entries
+
 -- the place of the body behind these: each body has its length and a gate before it
 abbrev pub place_behind : List (List ℕ) → ℕ
 place_behind bodies = 13 + sum_by (λ body. 5 + length body) bodies

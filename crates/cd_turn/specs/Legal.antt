@@ -7,6 +7,7 @@ use Rattle.cd_types.specs.declared.choices.Hold.TheVariants as hold
 use Rattle.cd_types.specs.declared.choices.Retain.TheVariants as retain
 use Rattle.cd_entries.specs.declared.entry.Entry.{Entry}
 use Rattle.cd_entries.specs.declared.entry.Entry.TheVariants as entry
+use Rattle.cd_entries.specs.Entry.{IsEntry}
 use Rattle.cd_turn.specs.Plain.{Plain, IsPlain}
 use Rattle.cd_turn.specs.Canonical.{plain_text}
 use Rattle.cd_turn.specs.Entries.{submitted_in, live_in, latest_in, origin_of}
@@ -44,12 +45,12 @@ IsNext entries (entry.Home name home) = entries ≡ []
 IsNext entries (entry.Submitted number moment origin card text) = IsSubmission entries number moment origin card text
 IsNext entries _ = ⊥
 
--- each of these entries may follow those before it
+-- each of these entries is in its form, and may follow those before it
 abbrev pub FollowLegally : List Entry → List Entry → Type 0
 FollowLegally before [] = Unit {0}
-FollowLegally before (e ∷ entries) = IsNext before e × FollowLegally (before ++ e ∷ []) entries
+FollowLegally before (e ∷ entries) = IsEntry e × IsNext before e × FollowLegally (before ++ e ∷ []) entries
 
--- each entry of the journal may follow those before it
+-- each entry of the journal is in its form, and may follow those before it
 abbrev pub IsLegal : List Entry → Type 0
 IsLegal entries = FollowLegally [] entries
 

@@ -7,7 +7,7 @@ ghost use Rattle.cd_outside.specs.Moments.{Moments};
 ghost use Rattle.cd_journal.specs.Bytes.{list_of};
 ghost use Rattle.cd_journal.specs.Fault.{OnDisk, IfFull, IfUnfit, OnNoMemory};
 ghost use Rattle.cd_journal.specs.Journal.{Opens, IsAt, KeepsList, length_of};
-ghost use Rattle.cd_entries.specs.Entry.{entry_bytes, IsWritable};
+ghost use Rattle.cd_entries.specs.Entry.{entry_bytes, IsEntry, IsWritable};
 ghost use Rattle.cd_turn.specs.Counts.{AreCounts};
 ghost use Rattle.cd_turn.specs.Entries.{is_submission, submitted_in, live_in, moment_of, latest_in, origin_of};
 ghost use Rattle.cd_turn.specs.Home.{StandsFor, IsHome, IsBad, HasBad, IsUnfit};
@@ -397,6 +397,7 @@ impl Home {
         ensures moments { P.told → Moments (LeftAt (P.state disk.old)) (LeftAt (P.state disk.new)) beat.old
             (λ image. StandsFor image self.old.entries ⊎ StandsFor image (self.old.entries ++ entry ∷ [])) }
 
+        ensures form { IsEntry entry }
         ensures full { IfFull result (λ len. (len ≡ length_of self.old.journal) × (2 ^ 30 < length_of self.old.journal + 5 + length (entry_bytes entry))) }
         ensures fits { OnOk result (length_of self.old.journal + 5 + length (entry_bytes entry) ≤ 2 ^ 30) }
         ensures fits_too { OnDisk result (length_of self.old.journal + 5 + length (entry_bytes entry) ≤ 2 ^ 30) }

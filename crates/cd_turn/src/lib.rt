@@ -3,6 +3,7 @@
 
 mod canonical;
 mod home;
+mod law;
 mod plain;
 mod reply;
 mod status;
@@ -10,6 +11,7 @@ mod turn;
 mod words;
 
 pub use home::Home;
+pub use law::law_of_homes;
 pub use plain::{Command, PlainCopy, command_of};
 pub use reply::{Refusal, Reply};
 pub use status::Status;

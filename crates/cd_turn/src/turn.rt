@@ -5,7 +5,7 @@ ghost use Rattle.cd_outside.specs.Disk.{last_of, LeftAt};
 ghost use Rattle.cd_outside.specs.Moments.{Moments};
 ghost use Rattle.cd_outside.specs.Streams.{TookFront};
 ghost use Rattle.cd_journal.specs.Fault.{OnDisk, IfFull, IfUnfit};
-ghost use Rattle.cd_entries.specs.Entry.{entry_bytes, IsWritable};
+ghost use Rattle.cd_entries.specs.Entry.{entry_bytes, IsEntry, IsWritable};
 ghost use Rattle.cd_turn.specs.Entries.{submitted_in};
 ghost use Rattle.cd_turn.specs.Home.{IsHome};
 ghost use Rattle.cd_turn.specs.Legal.{IsLegal, IsNext};
@@ -138,6 +138,7 @@ fn kept<P: Disk>(
     requires order { P.told → last_of (P.state journal.old).calls ≤ beat.old }
     ensures home { P.told → OnOk result (IsHome home.new (P.state journal.new)) }
     ensures kept { OnOk result (home.new.entries ≡ home.old.entries ++ entry ∷ []) }
+    ensures form { OnOk result (IsEntry entry) }
     ensures sound { OnOk result (home.new.journal.sound ≡ true) }
     ensures moments { P.told → Moments (LeftAt (P.state journal.old)) (LeftAt (P.state journal.new)) beat.old
         (MayLeave ((P.state journal.old).seen ≡ []) home.old.entries) }

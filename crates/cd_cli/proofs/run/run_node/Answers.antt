@@ -2,7 +2,7 @@ use Rattle.std.proofs.Common.{◌≡◌, ◌≤◌, ◌∙◌}
 use Rattle.cd_outside.specs.Counts.{Rose}
 use Rattle.cd_turn.specs.Home.{IsUnfit}
 use Rattle.cd_turn.specs.Status.{last_line}
-use Rattle.cd_cli.proofs.Completing.{served_completes}
+use Rattle.cd_cli.proofs.Completing.{served_completes, served_away}
 use Rattle.cd_cli.proofs.Going.{ended_weaker, rose_before, took_since}
 use Rattle.cd_cli.proofs.run.run_node.Goals as goal
 
@@ -26,8 +26,15 @@ returns-clause-reason g c = λ none.
     (λ rose. rose) (λ at unfit. unfit) (λ rose. rose) (λ rose. rose_before (g.O.Sink.faults c.args.out.now) (g.O.Sink.faults c.run-status.new.out) (g.O.Sink.faults c.tell_last-2.new.out) rest rose) c.run-status.result c.run-status.ensures.reason
 
 pub returns-clause-complete : goal.returns-clause-complete
-returns-clause-complete g c = λ none disk clock source sink fit small no_disk no_in no_out.
+returns-clause-complete g c = λ none disk clock source sink entries stood legal small fits no_disk no_in no_out.
     served_completes g.P.Disk.told g.C.Clock.told g.S.Source.told g.O.Sink.told (Rose (g.P.Disk.faults c.args.journal.now) (g.P.Disk.faults c.run-status.new.journal))
     (Rose (g.S.Source.faults c.args.input.now) (g.S.Source.faults c.run-status.new.input)) (Rose (g.O.Sink.faults c.args.out.now) (g.O.Sink.faults c.tell_last-2.new.out)) (g.C.Clock.moment c.args.clock.now)
     (g.P.Disk.state c.args.journal.now) (g.P.Disk.state c.run-status.new.journal) (g.S.Source.remaining c.args.input.now) (g.S.Source.remaining c.run-status.new.input) (g.O.Sink.taken c.args.out.now)
-    disk clock source sink fit small no_disk no_in no_out (g.O.Sink.taken c.tell_last-2.new.out) c.run-status.result (returns-clause-reason g c none) (returns-clause-served g c none)
+    disk clock source sink entries stood legal small no_disk no_in no_out fits (g.O.Sink.taken c.tell_last-2.new.out) c.run-status.result (returns-clause-reason g c none) (returns-clause-served g c none)
+
+pub returns-clause-unfit : goal.returns-clause-unfit
+returns-clause-unfit g c = λ none disk no_fit.
+    served_away g.P.Disk.told g.C.Clock.told g.S.Source.told g.O.Sink.told (Rose (g.P.Disk.faults c.args.journal.now) (g.P.Disk.faults c.run-status.new.journal))
+    (Rose (g.S.Source.faults c.args.input.now) (g.S.Source.faults c.run-status.new.input)) (Rose (g.O.Sink.faults c.args.out.now) (g.O.Sink.faults c.tell_last-2.new.out)) (g.C.Clock.moment c.args.clock.now)
+    (g.P.Disk.state c.args.journal.now) (g.P.Disk.state c.run-status.new.journal) (g.S.Source.remaining c.args.input.now) (g.S.Source.remaining c.run-status.new.input) (g.O.Sink.taken c.args.out.now)
+    (g.O.Sink.taken c.tell_last-2.new.out) c.run-status.result disk no_fit (returns-clause-reason g c none) (returns-clause-served g c none)

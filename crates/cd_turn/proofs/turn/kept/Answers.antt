@@ -3,11 +3,11 @@ use Rattle.std.proofs.Common.{◌≡◌, ◌⊎◌, inl, inr, ℕ, ◌+◌, ◌^
 use Rattle.cd_outside.specs.Disk.{LeftAt}
 use Rattle.cd_outside.proofs.Runs.{moments_then, moments_weaker}
 use Rattle.cd_entries.specs.declared.entry.Entry.{Entry}
-use Rattle.cd_entries.specs.Entry.{entry_bytes}
+use Rattle.cd_entries.specs.Entry.{entry_bytes, IsEntry}
 use Rattle.cd_journal.specs.Journal.{length_of}
 use Rattle.cd_turn.specs.Home.{StandsFor}
 use Rattle.cd_turn.specs.Ends.{MayLeave, journal_length}
-use Rattle.cd_turn.proofs.Fitting.{on_ok, on_disk, disk_any, if_full}
+use Rattle.cd_turn.proofs.Fitting.{on_ok, ok_any, on_disk, disk_any, if_full}
 use Rattle.cd_turn.proofs.Lengths.{home_length}
 use Rattle.cd_turn.proofs.Homes.{no_header, no_header_entries, keeps_image}
 use Rattle.cd_turn.proofs.turn.kept.Goals as goal
@@ -19,7 +19,7 @@ returns-then-has_header-clause-moments g c = λ told.
     moments_weaker (LeftAt old) (LeftAt (g.P.Disk.state c.keep.new.disk)) c.args.beat.now
     (λ image. StandsFor image entries ⊎ StandsFor image (entries ++ c.args.entry ∷ []))
     (MayLeave (old.seen ≡ []) entries)
-    (λ image left. inl (keeps_image entries c.args.entry image c.requires.legal c.requires.next left))
+    (λ image left. inl (keeps_image entries c.args.entry image c.requires.legal c.keep.ensures.form c.requires.next left))
     (c.keep.ensures.moments told)
 
 pub returns-in-Err-clause-moments : goal.returns-in-Err-clause-moments
@@ -52,7 +52,7 @@ returns-clause-moments g c = λ told.
     (moments_weaker (LeftAt made) (LeftAt now) c.make.new.beat
     (λ image. StandsFor image c.make.new.self.entries ⊎ StandsFor image (c.make.new.self.entries ++ c.args.entry ∷ []))
     (MayLeave (old.seen ≡ []) entries)
-    (λ image left. inl (keeps_image entries c.args.entry image c.requires.legal c.requires.next (subst (λ (es : List Entry). StandsFor image es ⊎ StandsFor image (es ++ c.args.entry ∷ [])) same left)))
+    (λ image left. inl (keeps_image entries c.args.entry image c.requires.legal c.keep-2.ensures.form c.requires.next (subst (λ (es : List Entry). StandsFor image es ⊎ StandsFor image (es ++ c.args.entry ∷ [])) same left)))
     (c.keep-2.ensures.moments told))
 
 pub returns-then-has_header-clause-full_len : goal.returns-then-has_header-clause-full_len
@@ -102,3 +102,9 @@ returns-clause-fits_too g c = λ told.
     let len = home_length home (g.P.Disk.state c.make.new.disk) (c.in-Ok.ensures.home told) (c.in-Ok.ensures.made told) ∙ ap journal_length c.in-Ok.ensures.entries in
     on_disk c.keep-2.result (length_of home.journal + 5 + length (entry_bytes c.args.entry) ≤ 2 ^ 30) (journal_length c.args.home.now.entries + 5 + length (entry_bytes c.args.entry) ≤ 2 ^ 30)
     (λ h. subst (λ (n : ℕ). n + 5 + length (entry_bytes c.args.entry) ≤ 2 ^ 30) len h) c.keep-2.ensures.fits_too
+
+pub returns-then-has_header-clause-form : goal.returns-then-has_header-clause-form
+returns-then-has_header-clause-form g c = ok_any c.keep.result (IsEntry c.args.entry) c.keep.ensures.form
+
+pub returns-clause-form : goal.returns-clause-form
+returns-clause-form g c = ok_any c.keep-2.result (IsEntry c.args.entry) c.keep-2.ensures.form

@@ -1,0 +1,6 @@
+mod Doing
+mod Joint
+mod Recording
+mod Rows
+mod Sending
+mod Touching

@@ -1,0 +1,95 @@
+use Rattle.std.proofs.Common.{◌≡◌, ◌≤◌, ◌∙◌, map, refl, arith, rules}
+use Rattle.std.proofs.lemmas.Iterator.Adapters.{YieldsList-from_vec}
+use Rattle.std.proofs.lemmas.Iterator.Consumers.{YieldsList-so_far, YieldsList-turn}
+use Rattle.cd_moves.specs.Node.{Node, does}
+use Rattle.cd_moves.specs.Seen.{seen_deed}
+use Rattle.cd_deeds.specs.Joint.{JointAt}
+use Rattle.cd_deeds.specs.Stands.{spot}
+use Rattle.cd_deeds.proofs.Doing.{row_none}
+use Rattle.cd_deeds.proofs.Rows.{done_none, row_run, behind, deeds_split, ready_here, kept_here, done_here, cut_here}
+use Rattle.cd_deeds.proofs.Sending.{fell_then, fell_none}
+use Rattle.cd_deeds.proofs.deeds.perform.Goals as goal
+
+pub loop-deed-init : goal.loop-deed-init
+loop-deed-init g c = record {
+  entries = refl;
+  done = done_none g.F.Files.told g.L.Lines.told c.args.sid.number (spot c.args.registry.now.entries (g.F.Files.state c.args.files.now).shelf c.args.phase.now c.args.holders.now (g.L.Lines.traffic c.args.lines.now));
+  moments = λ told files_told node is. row_none c.args.sid.number (map seen_deed c.args.deeds.items) node c.args.registry.now (g.D.Disk.state c.args.disk.now) (g.F.Files.state c.args.files.now) c.args.beat.now is.journal (is.shelf files_told) (c.requires.registry told) (c.requires.order told) (c.requires.files_order files_told);
+  registry = c.requires.registry;
+  header = c.requires.header;
+  sound = c.requires.sound;
+  order = c.requires.order;
+  files_order = c.requires.files_order;
+  beat = omega arith;
+  last = refl;
+  disk_later = omega arith;
+  files_later = omega arith;
+  lines_later = fell_none (g.L.Lines.counts c.args.lines.now);
+}
+
+pub one-requires-clause-ready : goal.one-requires-clause-ready
+one-requires-clause-ready g c =
+    let road = YieldsList-from_vec {s = c.into_iter-deed-iterator.result} c.args.deeds.items (search rules) (search rules) in
+    let so_far = YieldsList-so_far road c.loop-deed.yielded c.loop-deed.deed-iterator c.loop-deed.yielded_by in
+    let turn = YieldsList-turn road c.loop-deed.yielded c.loop-deed.deed-iterator c.loop-deed.yielded_by c.next.result c.next.new.self c.in-Some.deed c.in-Some.is c.next.ensures.steps in
+    let split = deeds_split c.args.deeds.items c.loop-deed.yielded c.in-Some.deed so_far turn in
+    ready_here g.T.Texts.read c.args.deeds.items c.loop-deed.yielded c.in-Some.deed c.args.registry.now.entries c.loop-deed.registry.entries split c.requires.ready c.loop-deed.invariant.entries
+
+pub loop-deed-preserved : goal.loop-deed-preserved
+loop-deed-preserved g c =
+    let road = YieldsList-from_vec {s = c.into_iter-deed-iterator.result} c.args.deeds.items (search rules) (search rules) in
+    let so_far = YieldsList-so_far road c.loop-deed.yielded c.loop-deed.deed-iterator c.loop-deed.yielded_by in
+    let turn = YieldsList-turn road c.loop-deed.yielded c.loop-deed.deed-iterator c.loop-deed.yielded_by c.next.result c.next.new.self c.in-Some.deed c.in-Some.is c.next.ensures.steps in
+    let split = deeds_split c.args.deeds.items c.loop-deed.yielded c.in-Some.deed so_far turn in
+    let i = c.loop-deed.invariant in
+    let e = c.in-Ok.ensures in
+    record {
+      entries = kept_here c.loop-deed.yielded c.in-Some.deed c.args.registry.now.entries c.loop-deed.registry.entries c.one.new.registry.entries i.entries e.entries;
+      done = done_here g.F.Files.told g.L.Lines.told c.args.sid.number c.loop-deed.yielded c.in-Some.deed
+          (spot c.args.registry.now.entries (g.F.Files.state c.args.files.now).shelf c.args.phase.now c.args.holders.now (g.L.Lines.traffic c.args.lines.now))
+          (spot c.loop-deed.registry.entries (g.F.Files.state c.loop-deed.files).shelf c.loop-deed.phase c.loop-deed.holders (g.L.Lines.traffic c.loop-deed.lines))
+          (spot c.one.new.registry.entries (g.F.Files.state c.one.new.files).shelf c.one.new.phase c.one.new.holders (g.L.Lines.traffic c.one.new.lines))
+          i.done e.done;
+      moments = λ told files_told node is. row_run c.args.sid.number (map seen_deed c.args.deeds.items) (map seen_deed c.loop-deed.yielded) (behind c.args.deeds.items c.loop-deed.yielded) (seen_deed c.in-Some.deed) node
+          (JointAt (g.D.Disk.state c.args.disk.now) (g.F.Files.state c.args.files.now))
+          (JointAt (g.D.Disk.state c.loop-deed.disk) (g.F.Files.state c.loop-deed.files))
+          (JointAt (g.D.Disk.state c.one.new.disk) (g.F.Files.state c.one.new.files))
+          c.args.beat.now c.loop-deed.beat split i.beat (i.moments told files_told node is)
+          (c.one.ensures.moments told files_told (does c.args.sid.number (map seen_deed c.loop-deed.yielded) node) (i.done.node node is));
+      registry = λ told. e.registry told (λ h. let k : ⊥ = cc in k);
+      header = e.header;
+      sound = e.sound (λ h. let k : ⊥ = cc in k);
+      order = e.order;
+      files_order = e.files_order;
+      beat = omega (arith, i.beat, e.beat);
+      last = e.last ∙ i.last;
+      disk_later = omega (arith, i.disk_later, e.disk_later);
+      files_later = omega (arith, i.files_later, e.files_later);
+      lines_later = fell_then (g.L.Lines.counts c.args.lines.now) (g.L.Lines.counts c.loop-deed.lines) (g.L.Lines.counts c.one.new.lines) i.lines_later e.lines_later;
+    }
+
+pub returns-in-Err-clause-cut : goal.returns-in-Err-clause-cut
+returns-in-Err-clause-cut g c =
+    let road = YieldsList-from_vec {s = c.into_iter-deed-iterator.result} c.args.deeds.items (search rules) (search rules) in
+    let so_far = YieldsList-so_far road c.loop-deed.yielded c.loop-deed.deed-iterator c.loop-deed.yielded_by in
+    let turn = YieldsList-turn road c.loop-deed.yielded c.loop-deed.deed-iterator c.loop-deed.yielded_by c.next.result c.next.new.self c.in-Some.deed c.in-Some.is c.next.ensures.steps in
+    let split = deeds_split c.args.deeds.items c.loop-deed.yielded c.in-Some.deed so_far turn in
+    cut_here g.F.Files.told g.L.Lines.told c.args.sid.number c.args.deeds.items c.loop-deed.yielded c.in-Some.deed c.in-Err.fault
+    (spot c.args.registry.now.entries (g.F.Files.state c.args.files.now).shelf c.args.phase.now c.args.holders.now (g.L.Lines.traffic c.args.lines.now))
+    (spot c.loop-deed.registry.entries (g.F.Files.state c.loop-deed.files).shelf c.loop-deed.phase c.loop-deed.holders (g.L.Lines.traffic c.loop-deed.lines))
+    (spot c.one.new.registry.entries (g.F.Files.state c.one.new.files).shelf c.one.new.phase c.one.new.holders (g.L.Lines.traffic c.one.new.lines))
+    split c.loop-deed.invariant.done c.in-Err.ensures.torn c.in-Err.ensures.fault
+
+pub returns-in-Err-clause-moments : goal.returns-in-Err-clause-moments
+returns-in-Err-clause-moments g c = λ told files_told node is.
+    let road = YieldsList-from_vec {s = c.into_iter-deed-iterator.result} c.args.deeds.items (search rules) (search rules) in
+    let so_far = YieldsList-so_far road c.loop-deed.yielded c.loop-deed.deed-iterator c.loop-deed.yielded_by in
+    let turn = YieldsList-turn road c.loop-deed.yielded c.loop-deed.deed-iterator c.loop-deed.yielded_by c.next.result c.next.new.self c.in-Some.deed c.in-Some.is c.next.ensures.steps in
+    let split = deeds_split c.args.deeds.items c.loop-deed.yielded c.in-Some.deed so_far turn in
+    let i = c.loop-deed.invariant in
+    row_run c.args.sid.number (map seen_deed c.args.deeds.items) (map seen_deed c.loop-deed.yielded) (behind c.args.deeds.items c.loop-deed.yielded) (seen_deed c.in-Some.deed) node
+          (JointAt (g.D.Disk.state c.args.disk.now) (g.F.Files.state c.args.files.now))
+          (JointAt (g.D.Disk.state c.loop-deed.disk) (g.F.Files.state c.loop-deed.files))
+          (JointAt (g.D.Disk.state c.one.new.disk) (g.F.Files.state c.one.new.files))
+          c.args.beat.now c.loop-deed.beat split i.beat (i.moments told files_told node is)
+          (c.one.ensures.moments told files_told (does c.args.sid.number (map seen_deed c.loop-deed.yielded) node) (i.done.node node is))

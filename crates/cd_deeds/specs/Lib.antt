@@ -1,0 +1,4 @@
+pub mod Calls
+pub mod Joint
+pub mod Registry
+pub mod Stands

@@ -1,0 +1,166 @@
+-- How deeds that are done go with the node of the rules.
+use Rattle.std.specs.Prelude.{◌≡◌, ◌⊎◌, ℕ, ◌+◌, ◌^◌, ◌<◌, ◌≤◌, List, length, true, [], ◌∷◌, ◌++◌, Option, Some, None, if◌then◌else◌}
+use Rattle.cd_types.specs.declared.key.Key.{Key}
+use Rattle.cd_outside.specs.Shelf.{Shelf}
+use Rattle.cd_outside.specs.Lines.{Traffic, sent, GaveFront}
+use Rattle.cd_journal.specs.declared.fault.JournalFault.{JournalFault}
+use Rattle.cd_journal.specs.declared.fault.JournalFault.TheVariants as of_journal
+use Rattle.cd_entries.specs.declared.entry.Entry.{Entry}
+use Rattle.cd_entries.specs.Entry as an_entry
+use Rattle.cd_entries.specs.Entry.{entry_bytes}
+use Rattle.cd_frames.specs.Frame.{frame_bytes, body_bytes, IsWritable}
+use Rattle.cd_frames.specs.Message.{Message}
+use Rattle.cd_legal.specs.Legal.{allowed}
+use Rattle.cd_legal.specs.Steps.{Reading}
+use Rattle.cd_status.specs.Keys.{same_key}
+use Rattle.cd_moves.specs.declared.session.Phase.{Phase}
+use Rattle.cd_moves.specs.Node.{Node, Deed, Keep, Touch, Begin, Go, does, sends}
+use Rattle.cd_deeds.specs.Calls.{ShelfTorn}
+use Rattle.cd_deeds.specs.Joint.{StandsFor}
+use Rattle.cd_deeds.specs.declared.holders.Holding.{Holding}
+use Rattle.cd_deeds.specs.declared.fault.Fault.{Fault}
+use Rattle.cd_deeds.specs.declared.fault.Fault.TheVariants as fault
+
+-- the session that holds a key, where the newest holding comes first
+abbrev pub holder_of : List Holding → Key → Option ℕ
+holder_of [] key = None
+holder_of (holding ∷ holdings) key = if same_key holding.key key then Some holding.sid.number else holder_of holdings key
+
+-- What stands while the deeds of one session are done: the entries of the journal and the holdings, the newest first; the
+-- files; the phase of the session; and the bytes that went over the lines.
+pub record Spot : Type 0 where
+  pub entries : List Entry
+  pub shelf : Shelf
+  pub phase : Phase
+  pub holdings : List Holding
+  pub traffic : Traffic
+
+abbrev pub spot : List Entry → Shelf → Phase → List Holding → Traffic → Spot
+spot entries shelf phase holdings traffic = record { entries = entries; shelf = shelf; phase = phase; holdings = holdings; traffic = traffic }
+
+-- The node is one that stands so. What isn't told of the files isn't said.
+pub record Stands (told : Type 0) (sid : ℕ) (node : Node) (spot : Spot) : Type 0 where
+  pub journal : node.desk.journal ≡ spot.entries
+  pub shelf : told → node.shelf ≡ spot.shelf
+  pub phase : node.sessions.phase sid ≡ spot.phase
+  pub holder : (key : Key) → node.sessions.holder key ≡ holder_of spot.holdings key
+
+-- these frames were given to the session, each by one send
+abbrev pub gave : ℕ → List Message → Traffic → Traffic
+gave sid [] traffic = traffic
+gave sid (m ∷ frames) traffic = gave sid frames (sent sid (frame_bytes m) traffic)
+
+-- What one deed makes of the entries, the phase, the holdings and the bytes.
+
+abbrev pub kept : Deed → List Entry → List Entry
+kept (Keep e) entries = e ∷ entries
+kept _ entries = entries
+
+abbrev pub phased : Deed → Phase → Phase
+phased (Begin key next) phase = next
+phased (Go next frames) phase = next
+phased _ phase = phase
+
+abbrev pub held : ℕ → Deed → List Holding → List Holding
+held sid (Begin key next) holdings = (record { key = key; sid = record { number = sid } }) ∷ holdings
+held sid _ holdings = holdings
+
+abbrev pub given : ℕ → Deed → Traffic → Traffic
+given sid (Go next frames) traffic = gave sid frames traffic
+given sid _ traffic = traffic
+
+-- a crash leaves a journal of the entries from before the deed, or of those after it
+abbrev pub IsKeptOrNot : Deed → List Entry → List ℕ → Type 0
+IsKeptOrNot deed entries bytes = StandsFor bytes entries ⊎ StandsFor bytes (kept deed entries)
+
+-- The deeds were done: each node that stood so is by the rules one that stands so now, and the session was given the frames
+-- that they send.
+pub record WereDone (files_told lines_told : Type 0) (sid : ℕ) (deeds : List Deed) (before after : Spot) : Type 0 where
+  pub node : (node : Node) → Stands files_told sid node before → Stands files_told sid (does sid deeds node) after
+  pub traffic : lines_told → after.traffic ≡ gave sid (sends deeds) before.traffic
+
+-- some of the frames were given, and a front of the next one
+pub record GaveSome (sid : ℕ) (frames : List Message) (before after : Traffic) : Type 0 where
+  pub given : List Message
+  pub torn : Message
+  pub more : List Message
+  pub parts : frames ≡ given ++ torn ∷ more
+  pub front : GaveFront sid (frame_bytes torn) (gave sid given before) after
+
+-- the lines where the deed failed
+abbrev pub TrafficTorn : ℕ → Deed → Traffic → Traffic → Type 0
+TrafficTorn sid (Go phase frames) before after = GaveSome sid frames before after
+TrafficTorn sid _ before after = after ≡ before
+
+-- A deed wasn't done: at most a part of what it changes outside was.
+pub record WasTorn (files_told lines_told : Type 0) (sid : ℕ) (deed : Deed) (before after : Spot) : Type 0 where
+  pub entries : after.entries ≡ before.entries
+  pub phase : after.phase ≡ before.phase
+  pub holdings : after.holdings ≡ before.holdings
+  pub shelf : files_told → ShelfTorn deed before.shelf after.shelf
+  pub traffic : lines_told → TrafficTorn sid deed before.traffic after.traffic
+
+-- a frame that can be sent: each field is in its range, and it isn't too long
+pub record IsSendable (m : Message) : Type 0 where
+  pub writable : IsWritable m
+  pub short : length (body_bytes m) ≤ 131072
+
+abbrev pub AreSendable : List Message → Type 0
+AreSendable [] = Unit {0}
+AreSendable (m ∷ frames) = IsSendable m × AreSendable frames
+
+-- an entry that can be recorded: it may follow the entries, each field is in its range, and it isn't too long
+pub record MayBeKept (read : Reading) (entries : List Entry) (e : Entry) : Type 0 where
+  pub next : allowed read entries e ≡ true
+  pub writable : an_entry.IsWritable e
+  pub short : length (entry_bytes e) ≤ 262144
+
+-- what a deed asks
+abbrev pub IsReady : Reading → List Entry → Deed → Type 0
+IsReady read entries (Keep e) = MayBeKept read entries e
+IsReady read entries (Go phase frames) = AreSendable frames
+IsReady read entries _ = Unit {0}
+
+-- what deeds ask, one after another
+abbrev pub AreReady : Reading → List Entry → List Deed → Type 0
+AreReady read entries [] = Unit {0}
+AreReady read entries (deed ∷ deeds) = IsReady read entries deed × AreReady read (kept deed entries) deeds
+
+-- the fault is one of sending frames
+abbrev pub IsFaultOfSending : Fault → Type 0
+IsFaultOfSending fault.NoMemory = Unit {0}
+IsFaultOfSending fault.Line = Unit {0}
+IsFaultOfSending _ = ⊥
+
+-- the fault is one of this deed; the journal is full where the entry makes it longer than 2^30 bytes
+abbrev pub IsFaultOf : Deed → Fault → Type 0
+IsFaultOf (Keep e) fault.Disk = Unit {0}
+IsFaultOf (Keep e) (fault.JournalFull len) = 2 ^ 30 < len + 5 + length (entry_bytes e)
+IsFaultOf (Keep e) fault.NoMemory = Unit {0}
+IsFaultOf (Touch change) fault.Files = Unit {0}
+IsFaultOf (Begin key phase) fault.NoMemory = Unit {0}
+IsFaultOf (Go phase frames) told = IsFaultOfSending told
+IsFaultOf _ _ = ⊥
+
+-- the deed changes no file
+abbrev pub IsNoTouch : Deed → Type 0
+IsNoTouch (Touch change) = ⊥
+IsNoTouch _ = Unit {0}
+
+-- The deeds were cut off: those before one of them were done, that one wasn't, and nothing was done of those behind it.
+pub record WereCut (files_told lines_told : Type 0) (sid : ℕ) (deeds : List Deed) (fault : Fault) (before after : Spot) : Type 0 where
+  pub done : List Deed
+  pub torn : Deed
+  pub more : List Deed
+  pub parts : deeds ≡ done ++ torn ∷ more
+  pub middle : Spot
+  pub first : WereDone files_told lines_told sid done before middle
+  pub rest : WasTorn files_told lines_told sid torn middle after
+  pub cause : IsFaultOf torn fault
+
+-- a fault of the journal in a deed
+abbrev pub fault_of : JournalFault → Fault
+fault_of of_journal.Disk = fault.Disk
+fault_of (of_journal.Full len) = fault.JournalFull len
+fault_of (of_journal.Unfit at) = fault.NoMemory
+fault_of of_journal.NoMemory = fault.NoMemory

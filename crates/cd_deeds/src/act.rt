@@ -1,0 +1,82 @@
+//! The part of a deed that isn't the files'.
+ghost use Rattle.std.specs.Prelude.{◌≡◌, ◌≢◌, ◌≤◌, ℕ, true, Err, OnOk, OnErr, IfErr};
+ghost use Rattle.cd_outside.specs.Counts.{Rose};
+ghost use Rattle.cd_outside.specs.Disk.{last_of, LeftAt};
+ghost use Rattle.cd_outside.specs.Lines.{NeverFell};
+ghost use Rattle.cd_outside.specs.Moments.{Moments};
+ghost use Rattle.cd_journal.specs.Journal.{length_of};
+ghost use Rattle.cd_moves.specs.Seen.{seen_deed};
+ghost use Rattle.cd_deeds.specs.Registry.{IsRegistry};
+ghost use Rattle.cd_deeds.specs.Stands.{kept, phased, held, given, TrafficTorn, IsFaultOf, IsReady, IsKeptOrNot, IsNoTouch};
+
+use crate::session::{begin, go};
+use crate::{Fault, Holders, Registry};
+use cd_book::Texts;
+use cd_moves::{Deed, Phase};
+use cd_outside::{Beat, Disk, Lines, Sid};
+use std::alloc::Global;
+
+/// Does what the deed does, but for the change of a file.
+pub(crate) fn act<T: Texts, D: Disk, L: Lines>(
+    alloc: Global,
+    registry: &mut Registry<T>,
+    phase: &mut Phase,
+    holders: &mut Holders,
+    sid: Sid,
+    disk: &mut D,
+    lines: &mut L,
+    deed: Deed<'_>,
+    beat: &mut Beat,
+) -> Result<(), Fault>
+    requires ready { IsReady T.read registry.old.entries (seen_deed deed) }
+    requires header { registry.old.journal.has_header ≡ true }
+    requires sound { registry.old.journal.sound ≡ true }
+    requires registry { D.told → IsRegistry registry.old (D.state disk.old) }
+    requires order { D.told → last_of (D.state disk.old).calls ≤ beat.old }
+    requires from { 1 ≤ sid.number }
+    requires to { sid.number ≤ L.last lines.old }
+
+    ensures registry { D.told → result ≢ Err Fault.Disk → IsRegistry registry.new (D.state disk.new) }
+    ensures header { registry.new.journal.has_header ≡ true }
+    ensures sound { result ≢ Err Fault.Disk → registry.new.journal.sound ≡ true }
+
+    ensures entries { OnOk result (registry.new.entries ≡ kept (seen_deed deed.entry) registry.old.entries) }
+    ensures phase { OnOk result (phase.new ≡ phased (seen_deed deed.entry) phase.old) }
+    ensures holders { OnOk result (holders.new ≡ held sid.number (seen_deed deed.entry) holders.old) }
+    ensures given { L.told → OnOk result (L.traffic lines.new ≡ given sid.number (seen_deed deed.entry) (L.traffic lines.old)) }
+
+    ensures same { OnErr result ((registry.new.entries ≡ registry.old.entries) × (phase.new ≡ phase.old) × (holders.new ≡ holders.old)) }
+    ensures torn { L.told → OnErr result (TrafficTorn sid.number (seen_deed deed.entry) (L.traffic lines.old) (L.traffic lines.new)) }
+    ensures fault { IfErr result (λ fault. IsFaultOf (seen_deed deed.entry) fault) }
+    ensures kind { OnErr result (IsNoTouch (seen_deed deed.entry)) }
+    ensures full { (len : ℕ) → result ≡ Err (Fault.JournalFull len) → length_of registry.new.journal ≡ len }
+
+    ensures moments { D.told → Moments (LeftAt (D.state disk.old)) (LeftAt (D.state disk.new)) beat.old (IsKeptOrNot (seen_deed deed.entry) registry.old.entries) }
+
+    ensures disk { result ≡ Err Fault.Disk → Rose (D.faults disk.old) (D.faults disk.new) }
+    ensures line { result ≡ Err Fault.Line → Rose ((L.counts lines.old).faults sid.number) ((L.counts lines.new).faults sid.number) }
+    ensures order { D.told → last_of (D.state disk.new).calls ≤ beat.new }
+    ensures beat { beat.old ≤ beat.new }
+    ensures last { L.last lines.new ≡ L.last lines.old }
+    ensures disk_later { D.faults disk.old ≤ D.faults disk.new }
+    ensures lines_later { NeverFell (L.counts lines.old) (L.counts lines.new) }
+{
+    match deed {
+        Deed::Keep(entry) => match registry.keep(disk, entry, beat) {
+            Ok(()) => Ok(()),
+            Err(fault) => Err(fault),
+        },
+        Deed::Begin(key, next) => match begin(phase, holders, sid, key, next) {
+            Ok(()) => Ok(()),
+            Err(fault) => Err(fault),
+        },
+        Deed::Go(next, frames) => match go(alloc, phase, lines, sid, next, &frames) {
+            Ok(()) => Ok(()),
+            Err(fault) => Err(fault),
+        },
+        Deed::Write(..) => Ok(()),
+        Deed::Cut(..) => Ok(()),
+        Deed::Sync(_) => Ok(()),
+        Deed::Remove(_) => Ok(()),
+    }
+}

@@ -1,0 +1,49 @@
+//! Which session holds which key.
+ghost use Rattle.std.specs.Prelude.{◌≡◌, ◌∷◌, [], OnOk, OnErr};
+
+use cd_outside::Sid;
+use cd_types::{Key, NoMemory};
+use std::alloc::Global;
+use std::marker::Model;
+
+/// A session holds a key.
+#[derive(Clone, Copy, Debug, PartialEq, Eq)]
+pub struct Holding {
+    pub key: Key,
+    pub sid: Sid,
+}
+
+/// Which session holds which key. Contracts see the holdings, the newest first; of a key the newest one counts.
+#[derive(Debug, Drop)]
+pub struct Holders {
+    holdings: Vec<Holding>,
+}
+
+impl Model for Holders {
+    ghost use Rattle.std.specs.Prelude.{List, reverse};
+    ghost use Rattle.cd_deeds.specs.declared.holders.Holding.{Holding};
+
+    ghost Value = { List Holding };
+
+    ghost view = { λ holders. reverse holders.holdings.items };
+}
+
+impl Holders {
+    /// No key is held. It takes no memory.
+    pub fn new(alloc: Global) -> Self
+        ensures { result ≡ [] }
+    {
+        Holders {
+            holdings: Vec::new(alloc),
+        }
+    }
+
+    /// The session holds the key from now on.
+    pub fn hold(&mut self, holding: Holding) -> Result<(), NoMemory>
+        ensures held { OnOk result (self.new ≡ holding ∷ self.old) }
+        ensures same { OnErr result (self.new ≡ self.old) }
+    {
+        self.holdings.push(holding)?;
+        Ok(())
+    }
+}

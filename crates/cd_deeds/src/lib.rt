@@ -1,0 +1,17 @@
+//! The deeds of a row, carried out over the devices of a node.
+#![tactic(auto)]
+
+mod act;
+mod deeds;
+mod fault;
+mod holders;
+mod one;
+
+mod registry;
+mod session;
+mod touch;
+
+pub use fault::Fault;
+pub use holders::{Holders, Holding};
+pub use deeds::perform;
+pub use registry::Registry;

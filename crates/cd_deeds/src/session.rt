@@ -1,0 +1,120 @@
+//! The part of a deed that a session has: its phase, what it holds, and the frames that it is given.
+ghost use Rattle.std.specs.Prelude.{◌≡◌, ◌≤◌, ◌<◌, ◌∷◌, length, map, Err, OnOk, OnErr, IfErr};
+ghost use Rattle.cd_outside.specs.Counts.{Rose};
+ghost use Rattle.cd_outside.specs.Lines.{sent, GaveFront, NeverFell};
+ghost use Rattle.cd_frames.specs.Frame.{frame_bytes, body_bytes, IsWritable};
+ghost use Rattle.cd_moves.specs.Seen.{seen_frame};
+ghost use Rattle.cd_deeds.specs.Stands.{gave, GaveSome, IsFaultOfSending, IsSendable, AreSendable};
+
+use crate::{Fault, Holders, Holding};
+use cd_frames::write_frame;
+use cd_moves::{Outgoing, Phase};
+use cd_outside::{Lines, Sid};
+use cd_types::Key;
+use std::alloc::Global;
+
+// Sends one frame.
+fn send<L: Lines>(
+    alloc: Global,
+    lines: &mut L,
+    sid: Sid,
+    frame: &Outgoing<'_>,
+) -> Result<(), Fault>
+    requires from { 1 ≤ sid.number }
+    requires to { sid.number ≤ L.last lines.old }
+    requires ready { IsSendable (seen_frame frame.now) }
+    ensures sent { L.told → OnOk result (L.traffic lines.new ≡ sent sid.number (frame_bytes (seen_frame frame.now)) (L.traffic lines.old)) }
+    ensures front { L.told → OnErr result (GaveFront sid.number (frame_bytes (seen_frame frame.now)) (L.traffic lines.old) (L.traffic lines.new)) }
+    ensures fault { IfErr result IsFaultOfSending }
+    ensures last { L.last lines.new ≡ L.last lines.old }
+    ensures later { NeverFell (L.counts lines.old) (L.counts lines.new) }
+    ensures cause { result ≡ Err Fault.Line → Rose ((L.counts lines.old).faults sid.number) ((L.counts lines.new).faults sid.number) }
+{
+    let mut bytes = Vec::new(alloc);
+    match write_frame(&frame.frame(), &mut bytes) {
+        Ok(()) => {}
+        Err(_) => return Err(Fault::NoMemory),
+    }
+    match lines.send(sid, &bytes) {
+        Ok(()) => Ok(()),
+        Err(_) => Err(Fault::Line),
+    }
+}
+
+// Sends these frames, one after another.
+fn send_all<L: Lines>(
+    alloc: Global,
+    lines: &mut L,
+    sid: Sid,
+    frames: &[Outgoing<'_>],
+) -> Result<(), Fault>
+    requires from { 1 ≤ sid.number }
+    requires to { sid.number ≤ L.last lines.old }
+    requires ready { AreSendable (map seen_frame frames.now) }
+    ensures sent { L.told → OnOk result (L.traffic lines.new ≡ gave sid.number (map seen_frame frames.now) (L.traffic lines.old)) }
+    ensures some { L.told → OnErr result (GaveSome sid.number (map seen_frame frames.now) (L.traffic lines.old) (L.traffic lines.new)) }
+    ensures fault { IfErr result IsFaultOfSending }
+    ensures last { L.last lines.new ≡ L.last lines.old }
+    ensures later { NeverFell (L.counts lines.old) (L.counts lines.new) }
+    ensures cause { result ≡ Err Fault.Line → Rose ((L.counts lines.old).faults sid.number) ((L.counts lines.new).faults sid.number) }
+{
+    for frame in frames {
+        match send(alloc, lines, sid, frame) {
+            Ok(()) => {}
+            Err(fault) => return Err(fault),
+        }
+    }
+    Ok(())
+}
+
+// The session is in this phase once the frames were sent.
+pub(crate) fn go<L: Lines>(
+    alloc: Global,
+    phase: &mut Phase,
+    lines: &mut L,
+    sid: Sid,
+    next: Phase,
+    frames: &[Outgoing<'_>],
+) -> Result<(), Fault>
+    requires from { 1 ≤ sid.number }
+    requires to { sid.number ≤ L.last lines.old }
+    requires ready { AreSendable (map seen_frame frames.now) }
+    ensures phase { OnOk result (phase.new ≡ next) }
+    ensures same { OnErr result (phase.new ≡ phase.old) }
+    ensures sent { L.told → OnOk result (L.traffic lines.new ≡ gave sid.number (map seen_frame frames.now) (L.traffic lines.old)) }
+    ensures some { L.told → OnErr result (GaveSome sid.number (map seen_frame frames.now) (L.traffic lines.old) (L.traffic lines.new)) }
+    ensures fault { IfErr result IsFaultOfSending }
+    ensures last { L.last lines.new ≡ L.last lines.old }
+    ensures later { NeverFell (L.counts lines.old) (L.counts lines.new) }
+    ensures cause { result ≡ Err Fault.Line → Rose ((L.counts lines.old).faults sid.number) ((L.counts lines.new).faults sid.number) }
+{
+    match send_all(alloc, lines, sid, frames) {
+        Ok(()) => {
+            *phase = next;
+            Ok(())
+        }
+        Err(fault) => Err(fault),
+    }
+}
+
+// The session holds the key from now on, and is in this phase.
+pub(crate) fn begin(
+    phase: &mut Phase,
+    holders: &mut Holders,
+    sid: Sid,
+    key: Key,
+    next: Phase,
+) -> Result<(), Fault>
+    ensures phase { OnOk result (phase.new ≡ next) }
+    ensures held { OnOk result (holders.new ≡ (record { key = key; sid = sid }) ∷ holders.old) }
+    ensures same { OnErr result ((phase.new ≡ phase.old) × (holders.new ≡ holders.old)) }
+    ensures fault { IfErr result (λ fault. fault ≡ Fault.NoMemory) }
+{
+    match holders.hold(Holding { key, sid }) {
+        Ok(()) => {
+            *phase = next;
+            Ok(())
+        }
+        Err(_) => Err(Fault::NoMemory),
+    }
+}

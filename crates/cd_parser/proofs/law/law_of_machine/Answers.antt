@@ -1,5 +1,0 @@
-use Rattle.cd_parser.proofs.Sound.{whole_sound}
-use Rattle.cd_parser.proofs.law.law_of_machine.Goals as goal
-
-pub returns : goal.returns
-returns c = record { sound = λ how len tokens all e. whole_sound how len tokens all e }

@@ -1,0 +1,12 @@
+use Rattle.std.proofs.lemmas.Result.{err_from_is_err_and}
+use Rattle.cd_grammar.specs.Faults.{IsFault, IsFaultOf}
+use Rattle.cd_parser.proofs.Told.{none_told}
+use Rattle.cd_parser.proofs.texts.parse.Goals as goal
+
+pub returns-in_err-process-clause-every_process : goal.returns-in_err-process-clause-every_process
+returns-in_err-process-clause-every_process c = λ q said.
+    let p = err_from_is_err_and c.from_residual.result c.from_residual.ensures.1 in
+    rw (p.1, p.2) (none_told (IsFaultOf c.args.text.now c.args.overrides.now) c.in_err-process.field-0.0 (λ f bad. c.law_of_resolved_texts.ensures.not_both c.args.text.now c.args.overrides.now q f said bad) c.in_err-process.ensures.fault)
+
+pub returns-clause-every_process : goal.returns-clause-every_process
+returns-clause-every_process c = λ q said. c.law_of_resolved_texts.ensures.one_process c.args.text.now c.args.overrides.now c.in_ok-process.process q c.in_ok-process.ensures.process said

@@ -1,0 +1,12 @@
+//! What a node reports of its journal.
+#![tactic(auto)]
+
+mod digits;
+mod line;
+mod statistics;
+#[cfg(test)]
+mod tests;
+mod words;
+
+pub use line::{Line, Numbered, line_of};
+pub use statistics::write_statistics;

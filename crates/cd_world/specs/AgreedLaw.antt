@@ -1,0 +1,825 @@
+-- What two nodes have agreed on: results on the way are the sender's outcomes, and each Ended is its keeper's outcome. What
+-- landed has an outcome, and landed once.
+use Rattle.std.proofs.Common.{◌≡◌, ℕ, zero, suc, ◌+◌, Bool, true, false, cond, ◌&&◌, eqb, ltb, leb, List, [], ◌∷◌, ◌++◌, length, take, drop, Option, Some, None, ◌⊎◌, inl, inr, refl, sym, ◌∙◌, ap, subst, arith}
+use Rattle.std.specs.Prelude.{◌||◌, not}
+use Rattle.std.proofs.lemmas.List.{append-nil, take-append-drop}
+use Rattle.std.proofs.lemmas.Bool.{cases_Bool, and_parts, or_cases, and_from, cond-true, cond-false, false≢true, eqb-true}
+use Rattle.cd_types.specs.Choices.{cause_code}
+use Rattle.cd_types.specs.declared.card.Filed.{Filed}
+use Rattle.cd_types.specs.declared.choices.Cause.{Cause}
+use Rattle.cd_types.specs.declared.choices.Cause.TheVariants as cause
+use Rattle.cd_types.specs.declared.key.Key.{Key}
+use Rattle.cd_types.specs.declared.rows.Outcomes.{Outcomes}
+use Rattle.cd_types.specs.declared.rows.Receiving.{Receiving}
+use Rattle.cd_entries.specs.declared.entry.Entry.{Entry}
+use Rattle.cd_entries.specs.declared.entry.Entry.TheVariants as entry
+use Rattle.cd_ast.specs.declared.process.What.{What}
+use Rattle.cd_outside.specs.Shelf as shelves
+use Rattle.cd_frames.specs.Message as message
+use Rattle.cd_frames.specs.Message.{Message}
+use Rattle.cd_status.specs.Keys.{same_key, is_of}
+use Rattle.cd_status.specs.KeysLaw.{same_key-refl, same_key-true}
+use Rattle.cd_status.specs.Processes.{own_home, made_for, is_live, is_over}
+use Rattle.cd_status.specs.Status as status
+use Rattle.cd_status.specs.Status.{Status, outcome}
+use Rattle.cd_status.specs.StatusLaw.{outcome-status, status-other, status-own}
+use Rattle.cd_legal.specs.Legal.{allowed, is_legal, may_answer, is_made, is_cause_from, is_code_of, may_end_from, may_drop_from, is_dropping, is_outcome, own_outcome, is_kept_outcome, may_end}
+use Rattle.cd_legal.specs.LegalLaw.{legal_parts, follows, legal_before, outcome_stays}
+use Rattle.cd_legal.specs.OpeningsLaw as openings
+use Rattle.cd_legal.specs.Steps.{Reading, what_at, stmts_of, next_place, runs_itself, is_such, pnode_keeps, fits_own}
+use Rattle.cd_moves.specs.declared.session.Phase.{Phase}
+use Rattle.cd_moves.specs.Node.{Config, Desk, Sessions, Node, Deed, Keep, Touch, AskSize, AskBytes, Begin, Go, Answers, did, does, recorded}
+use Rattle.cd_moves.specs.Rows.{row_choose, row_trouble}
+use Rattle.cd_moves.specs.RowsLaw.{same_config, part_extends}
+use Rattle.cd_world.specs.World.{At, A, B, across, Note, Sized, Read, Began, Landed, Half, World, seen_from, landing_of, noted_by, read_for, is_gone, at_session, behind_them, world_did, world_does, Happening, Choice, Call, Frame, End, Task, nothing, opens, with_session, called, answers_now, came, ended, task_of, task, world_after, world_within, deeds_left, Cut, cut_off, with_shelf, world_faulted, down, world_stopped, no_sessions, marked, world_started, world_lost, world_written, submission_of, world_submitted, Event, Does, Fails, Stops, Starts, Loses, Writes, Later, Submits, later, happens, after, IsNew, IsFirst, ArePossible}
+use Rattle.cd_world.specs.Holds.{journal_of, IsOutcome, IsOwnStep, EachEnded, EndsAsKept, HaveResults, is_at, landings, IsOne, keeper, LandsOnce, HaveLanded}
+use Rattle.cd_world.specs.DeedsLaw.{OwnKey, PhaseOk, EndedBy, KeepOk, SentOk, AllSent, AllFit, HeardOk, row_ok, choose_ok, close_ok, trouble_ok}
+use Rattle.cd_world.specs.GrownLaw.{does_node, BothGrown, BothSound, within_grown, whole_grown, trouble_grown, legal_more, happens_grown, after_grown, first_sound}
+use Rattle.cd_world.specs.KeptLaw.{outcome_kept}
+
+-- An outcome with this code.
+pub record HasCode (journal : List Entry) (key : Key) (rc : ℕ) : Type 0 where
+  pub o : Outcomes
+  pub is : outcome journal key ≡ Some o
+  pub code : o.rc ≡ rc
+
+-- An Ended is as its keeper has it: this node, or the other one.
+pub record EndedKept (read : Reading) (other journal : List Entry) (n place rc : ℕ) (why : Cause) (bytes : ℕ) : Type 0 where
+  pub key : Key
+  pub home : own_home journal ≡ Some (key.pnode, key.home)
+  pub number : key.number ≡ n
+  pub step : key.place ≡ place
+  pub here : is_such pnode_keeps (what_at read journal n place) ≡ true → HasCode journal key rc
+  pub there : is_such pnode_keeps (what_at read journal n place) ≡ false → IsOutcome other key rc why bytes
+
+abbrev pub NotStarted : Status → Type 0
+NotStarted (status.Started tries kind) = ⊥
+NotStarted _ = Unit {0}
+
+-- what landed of a step: nothing without an outcome, and with the code 0 once
+abbrev pub LandOk : Status → List (List ℕ) → Type 0
+LandOk (status.Done o) landed = o.rc ≡ 0 → IsOne landed
+LandOk _ landed = landed ≡ []
+
+-- What holds of one node beside the other one.
+pub record Agreed (x : At) (own : Option (List ℕ × ℕ)) (a b : Half) (notes : List Note) : Type 0 where
+  pub home : own_home (journal_of a) ≡ own
+  pub phases : (n : ℕ) → PhaseOk own (λ key o. outcome (journal_of b) key ≡ Some o) (a.node.sessions.phase n)
+  pub heard : (n : ℕ) → AllSent own (λ key o. outcome (journal_of b) key ≡ Some o) (journal_of b) (a.way n)
+  pub ended : EachEnded (EndedKept a.node.desk.config.read (journal_of b)) (journal_of a)
+  pub plain : (key : Key) → made_for (journal_of a) key ≡ None
+  pub started : (key : Key) → NotStarted (status.status (journal_of a) key)
+  pub landed : (key : Key) → LandOk (status.status (journal_of a) key) (landings x key notes)
+
+-- Entries that rows record, and submissions by operators.
+module _ (own : Option (List ℕ × ℕ)) (Says : Key → Outcomes → Type 0) where
+  abbrev pub RecordOk : List Entry → Entry → Type 0
+  RecordOk journal (entry.Submitted n moment None card text) = Unit {0}
+  RecordOk journal (entry.Submitted n moment (Some key) card text) = ⊥
+  RecordOk journal (entry.Home name home) = ⊥
+  RecordOk journal (entry.Started key kind try moment) = ⊥
+  RecordOk journal (entry.Ended n place rc why bytes moment) = EndedBy own Says journal n place rc why bytes
+  RecordOk journal _ = Unit {0}
+
+  record_ok : (journal : List Entry) (e : Entry) → KeepOk own Says journal e → RecordOk journal e
+  record_ok journal (entry.Submitted n moment origin card text) ok = absurd ok
+  record_ok journal (entry.Home name home) ok = ok
+  record_ok journal (entry.Started key kind try moment) ok = ok
+  record_ok journal (entry.Ended n place rc why bytes moment) ok = ok
+  record_ok journal e ok = tt
+
+  home_more : (journal : List Entry) (e : Entry) → RecordOk journal e → own_home (e ∷ journal) ≡ own_home journal
+  unfolding own_home
+  home_more journal (entry.Home name home) ok = absurd ok
+  home_more journal e ok = refl
+
+  made_more : (journal : List Entry) (e : Entry) (key : Key) → RecordOk journal e → made_for journal key ≡ None → made_for (e ∷ journal) key ≡ None
+  unfolding made_for
+  made_more journal (entry.Submitted n moment None card text) key ok none = none
+  made_more journal (entry.Submitted n moment (Some step) card text) key ok none = absurd ok
+  made_more journal e key ok none = none
+
+  open_not_started : (r : Receiving) (s : Status) → NotStarted s → NotStarted (status.opened r s)
+  open_not_started r status.Fresh h = tt
+  open_not_started r (status.Started tries kind) h = tt
+  open_not_started r (status.Open before safe) h = tt
+  open_not_started r (status.Done o) h = tt
+
+  mark_not_started : (offset : ℕ) (s : Status) → NotStarted s → NotStarted (status.marked offset s)
+  mark_not_started offset status.Fresh h = tt
+  mark_not_started offset (status.Started tries kind) h = h
+  mark_not_started offset (status.Open before safe) h = tt
+  mark_not_started offset (status.Done o) h = tt
+
+  after_not_started : (journal : List Entry) (e : Entry) (s : Status) → RecordOk journal e → NotStarted s → NotStarted (status.after e s)
+  after_not_started journal (entry.Started key kind try moment) s ok h = absurd ok
+  after_not_started journal (entry.Receiving r) s ok h = open_not_started r s h
+  after_not_started journal (entry.Mark key offset) s ok h = mark_not_started offset s h
+  after_not_started journal (entry.Result key o moment) s ok h = tt
+  after_not_started journal (entry.Dropped key rc why moment) s ok h = tt
+  after_not_started journal e s ok h = h
+
+  not_started_more : (journal : List Entry) (e : Entry) (key : Key) → RecordOk journal e → NotStarted (status.status journal key) → NotStarted (status.status (e ∷ journal) key)
+  not_started_more journal e key ok h =
+      elim (cases_Bool (is_of key e)) [
+        | inl same ↦ subst NotStarted (sym (status-own e journal key same)) (after_not_started journal e (status.status journal key) ok h)
+        | inr other ↦ subst NotStarted (sym (status-other e journal key other)) h
+      ]
+
+  -- a new Ended
+  module _ (read : Reading) (other journal : List Entry) (home : own_home journal ≡ own) (legal : is_legal read journal ≡ true) where
+    found_code : (key : Key) (rc : ℕ) (why : Cause) (bytes : ℕ) (found : Option Outcomes) → outcome journal key ≡ found → is_outcome rc why bytes found ≡ true → HasCode journal key rc
+    found_code key rc why bytes None is fits = absurd (false≢true fits)
+    found_code key rc why bytes (Some o) is fits =
+        let two = and_parts (eqb o.rc rc && eqb (cause_code o.cause) (cause_code why)) (eqb o.bytes bytes) fits in
+        let one = and_parts (eqb o.rc rc) (eqb (cause_code o.cause) (cause_code why)) two.0 in
+        record { o = o; is = is; code = eqb-true o.rc rc one.0 }
+
+    kept_here : (n place rc : ℕ) (why : Cause) (bytes : ℕ) (w : Option What) → is_kept_outcome journal n place rc why bytes w ≡ true → is_such pnode_keeps w ≡ true
+        → is_outcome rc why bytes (own_outcome journal (own_home journal) n place) ≡ true
+    kept_here n place rc why bytes None fits such = absurd (false≢true fits)
+    kept_here n place rc why bytes (Some s) fits such =
+        elim (or_cases (not (pnode_keeps s)) (is_outcome rc why bytes (own_outcome journal (own_home journal) n place)) fits) [
+          | inl apart ↦ absurd (false≢true (sym (ap not such) ∙ apart))
+          | inr is ↦ is
+        ]
+
+    new_ended : (n place rc : ℕ) (why : Cause) (bytes : ℕ) → may_end read journal n place rc why bytes ≡ true → EndedBy own Says journal n place rc why bytes
+        → ((key : Key) (o : Outcomes) → Says key o → outcome other key ≡ Some o) → EndedKept read other journal n place rc why bytes
+    new_ended n place rc why bytes fits by says =
+        let own_is : own_home journal ≡ Some (by.key.pnode, by.key.home) = home ∙ by.own_key in
+        let kept = (and_parts (is_live journal n && runs_itself journal n && eqb place (next_place read journal n) && ltb place (length (stmts_of read journal n))) (is_kept_outcome journal n place rc why bytes (what_at read journal n place)) fits).1 in
+        record {
+          key = by.key;
+          home = own_is;
+          number = sym by.number;
+          step = sym by.step;
+          here = λ such.
+              let mine = kept_here n place rc why bytes (what_at read journal n place) kept such in
+              let found : is_outcome rc why bytes (outcome journal (record { pnode = by.key.pnode; home = by.key.home; number = n; place = place })) ≡ true =
+              subst (λ (known : Option (List ℕ × ℕ)). is_outcome rc why bytes (own_outcome journal known n place) ≡ true) own_is mine in
+              let at_number : is_outcome rc why bytes (outcome journal (record { pnode = by.key.pnode; home = by.key.home; number = by.key.number; place = place })) ≡ true =
+              subst (λ (m : ℕ). is_outcome rc why bytes (outcome journal (record { pnode = by.key.pnode; home = by.key.home; number = m; place = place })) ≡ true) by.number found in
+              let at_key : is_outcome rc why bytes (outcome journal by.key) ≡ true =
+              subst (λ (m : ℕ). is_outcome rc why bytes (outcome journal (record { pnode = by.key.pnode; home = by.key.home; number = by.key.number; place = m })) ≡ true) by.step at_number in
+              found_code by.key rc why bytes (outcome journal by.key) refl at_key;
+          there = λ apart. elim by.says [
+            | inl told ↦ record { o = by.o; is = says by.key by.o told; code = sym by.rc_is; cause = sym by.why_is; length = sym by.bytes_is }
+            | inr own_outcome_is ↦
+                let such : is_such pnode_keeps (what_at read journal by.key.number by.key.place) ≡ true = outcome_kept read journal by.key by.o legal own_is own_outcome_is in
+                let such2 : is_such pnode_keeps (what_at read journal n by.key.place) ≡ true = subst (λ (m : ℕ). is_such pnode_keeps (what_at read journal m by.key.place) ≡ true) (sym by.number) such in
+                let such3 : is_such pnode_keeps (what_at read journal n place) ≡ true = subst (λ (m : ℕ). is_such pnode_keeps (what_at read journal n m) ≡ true) (sym by.step) such2 in
+                absurd (false≢true (sym apart ∙ such3))
+          ];
+        }
+
+    ended_more : (e : Entry) → is_legal read (e ∷ journal) ≡ true → RecordOk journal e → ((key : Key) (o : Outcomes) → Says key o → outcome other key ≡ Some o)
+        → EachEnded (EndedKept read other) journal → EachEnded (EndedKept read other) (e ∷ journal)
+    ended_more (entry.Ended n place rc why bytes moment) legal2 ok says all = (new_ended n place rc why bytes (follows read _ journal legal2) ok says, all)
+    ended_more (entry.Home name known) legal2 ok says all = all
+    ended_more (entry.Submitted n moment origin card text) legal2 ok says all = all
+    ended_more e legal2 ok says all = all
+
+-- Landings.
+
+pub at_self : (x : At) → is_at x x ≡ true
+at_self A = refl
+at_self B = refl
+
+pub not_across : (x : At) → is_at (across x) x ≡ false
+not_across A = refl
+not_across B = refl
+
+open_lands : (r : Receiving) (s : Status) (landed : List (List ℕ)) → LandOk s landed → LandOk (status.opened r s) landed
+open_lands r status.Fresh landed h = h
+open_lands r (status.Started tries kind) landed h = h
+open_lands r (status.Open before safe) landed h = h
+open_lands r (status.Done o) landed h = h
+
+mark_lands : (offset : ℕ) (s : Status) (landed : List (List ℕ)) → LandOk s landed → LandOk (status.marked offset s) landed
+mark_lands offset status.Fresh landed h = h
+mark_lands offset (status.Started tries kind) landed h = h
+mark_lands offset (status.Open before safe) landed h = h
+mark_lands offset (status.Done o) landed h = h
+
+-- a step without a receiving has no outcome with the code 0
+by_cause : (why : Cause) (rc made : ℕ) → made ≡ 0 → is_cause_from status.Fresh why made ≡ true → is_code_of why rc ≡ true → rc ≡ 0 → ⊥
+by_cause cause.None rc made none fits code is = false≢true (subst (λ (m : ℕ). not (eqb m 0) ≡ true) none fits)
+by_cause cause.NotStarted rc made none fits code is = false≢true fits
+by_cause cause.Killed rc made none fits code is = false≢true fits
+by_cause cause.Interrupted rc made none fits code is = false≢true fits
+by_cause cause.Released rc made none fits code is = false≢true code
+by_cause cause.Trouble rc made none fits code is = false≢true code
+by_cause why rc made none fits code is = false≢true (subst (λ (m : ℕ). eqb m 8 ≡ true) is code)
+
+answer_code : (journal : List Entry) (key : Key) (o : Outcomes) → made_for journal key ≡ None → may_answer journal key status.Fresh o ≡ true → o.rc ≡ 0 → ⊥
+answer_code journal key o none fits is =
+    let four = and_parts (not (is_over journal key) && eqb o.bytes 0 && is_made (made_for journal key) o && is_cause_from status.Fresh o.cause o.made) (is_code_of o.cause o.rc) fits in
+    let three = and_parts (not (is_over journal key) && eqb o.bytes 0 && is_made (made_for journal key) o) (is_cause_from status.Fresh o.cause o.made) four.0 in
+    let two = and_parts (not (is_over journal key) && eqb o.bytes 0) (is_made (made_for journal key) o) three.0 in
+    let made : eqb o.made 0 ≡ true = subst (λ (found : Option ℕ). is_made found o ≡ true) none two.1 in
+    by_cause o.cause o.rc o.made (eqb-true o.made 0 made) three.1 four.1 is
+
+module _ (x : At) (read : Reading) (journal : List Entry) (received : Key → List ℕ) (notes : List Note)
+    (plain : (key : Key) → made_for journal key ≡ None) (started : (key : Key) → NotStarted (status.status journal key))
+    (legal : is_legal read journal ≡ true) where
+  -- a landing is of the receiving of its step
+  own_landing : (key step : Key) (s : Status) → status.status journal step ≡ s → same_key key step ≡ false → landings x key (landing_of x s (received step) notes) ≡ landings x key notes
+  own_landing key step status.Fresh is apart = refl
+  own_landing key step (status.Started tries kind) is apart = refl
+  own_landing key step (status.Done o) is apart = refl
+  own_landing key step (status.Open r safe) is apart =
+      let same : r.key ≡ step = (openings.open-on read journal step r safe legal is).0 in
+      let test : (is_at x x && same_key key r.key) ≡ false = ap (λ (k : Key). is_at x x && same_key key k) same ∙ ap (λ (b : Bool). is_at x x && b) apart ∙ ap (λ (b : Bool). b && false) (at_self x) in
+      cond-false (is_at x x && same_key key r.key) (received step ∷ landings x key notes) (landings x key notes) test
+
+  result_lands : (step : Key) (o : Outcomes) (s : Status) → status.status journal step ≡ s → may_end_from journal step s o ≡ true → LandOk s (landings x step notes)
+      → o.rc ≡ 0 → IsOne (landings x step (landing_of x s (received step) notes))
+  result_lands step o status.Fresh is fits before code = absurd (answer_code journal step o (plain step) fits code)
+  result_lands step o (status.Started tries kind) is fits before code = absurd (subst NotStarted is (started step))
+  result_lands step o (status.Done earlier) is fits before code = absurd (false≢true fits)
+  result_lands step o (status.Open r safe) is fits before code =
+      let same : r.key ≡ step = (openings.open-on read journal step r safe legal is).0 in
+      let test : (is_at x x && same_key step r.key) ≡ true = and_from (is_at x x) (same_key step r.key) (at_self x) (subst (λ (k : Key). same_key step k ≡ true) (sym same) (same_key-refl step)) in
+      record { got = received step; is = cond-true (is_at x x && same_key step r.key) (received step ∷ landings x step notes) (landings x step notes) test ∙ ap (λ (rest : List (List ℕ)). received step ∷ rest) before }
+
+  drop_code : (s : Status) (rc : ℕ) (why : Cause) → may_drop_from s rc why ≡ true → rc ≡ 0 → ⊥
+  drop_code status.Fresh rc why fits is = false≢true fits
+  drop_code (status.Started tries kind) rc why fits is = false≢true fits
+  drop_code (status.Done o) rc why fits is = false≢true fits
+  drop_code (status.Open r safe) rc why fits is =
+      let two = and_parts (eqb safe 0 && eqb rc 8) (is_dropping why) fits in
+      let one = and_parts (eqb safe 0) (eqb rc 8) two.0 in
+      false≢true (subst (λ (m : ℕ). eqb m 8 ≡ true) is one.1)
+
+  lands_more : (e : Entry) (key : Key) → is_legal read (e ∷ journal) ≡ true → ((kind : _) (step : Key) (try moment : ℕ) → e ≡ entry.Started step kind try moment → ⊥)
+      → LandOk (status.status journal key) (landings x key notes) → LandOk (status.status (e ∷ journal) key) (landings x key (noted_by x journal received e notes))
+  lands_more (entry.Result step o moment) key legal2 never before =
+      let e : Entry = entry.Result step o moment in
+      let s : Status = status.status journal step in
+      let fits : may_end_from journal step s o ≡ true = (and_parts (may_end_from journal step s o) (fits_own read journal step pnode_keeps) (follows read e journal legal2)).0 in
+      elim (cases_Bool (same_key key step)) [
+        | inl same ↦
+            let is : key ≡ step = same_key-true key step same in
+            let done : LandOk (status.Done o) (landings x step (landing_of x s (received step) notes)) =
+            result_lands step o s refl fits (subst (λ (k : Key). LandOk (status.status journal k) (landings x k notes)) is before) in
+            subst (λ (t : Status). LandOk t (landings x key (landing_of x s (received step) notes))) (sym (status-own e journal key same))
+            (subst (λ (k : Key). LandOk (status.Done o) (landings x k (landing_of x s (received step) notes))) (sym is) done)
+        | inr other ↦
+            subst (λ (t : Status). LandOk t (landings x key (landing_of x s (received step) notes))) (sym (status-other e journal key other))
+            (subst (λ (landed : List (List ℕ)). LandOk (status.status journal key) landed) (sym (own_landing key step s refl other)) before)
+      ]
+  lands_more (entry.Dropped step rc why moment) key legal2 never before =
+      let e : Entry = entry.Dropped step rc why moment in
+      elim (cases_Bool (same_key key step)) [
+        | inl same ↦
+            let done : LandOk (status.Done (status.dropped_outcome rc why)) (landings x key notes) = λ code. absurd (drop_code (status.status journal step) rc why (follows read e journal legal2) code) in
+            subst (λ (t : Status). LandOk t (landings x key notes)) (sym (status-own e journal key same)) done
+        | inr other ↦ subst (λ (t : Status). LandOk t (landings x key notes)) (sym (status-other e journal key other)) before
+      ]
+  lands_more (entry.Receiving r) key legal2 never before =
+      let e : Entry = entry.Receiving r in
+      elim (cases_Bool (same_key key r.key)) [
+        | inl same ↦ subst (λ (t : Status). LandOk t (landings x key notes)) (sym (status-own e journal key same)) (open_lands r (status.status journal key) (landings x key notes) before)
+        | inr other ↦ subst (λ (t : Status). LandOk t (landings x key notes)) (sym (status-other e journal key other)) before
+      ]
+  lands_more (entry.Mark step offset) key legal2 never before =
+      let e : Entry = entry.Mark step offset in
+      elim (cases_Bool (same_key key step)) [
+        | inl same ↦ subst (λ (t : Status). LandOk t (landings x key notes)) (sym (status-own e journal key same)) (mark_lands offset (status.status journal key) (landings x key notes) before)
+        | inr other ↦ subst (λ (t : Status). LandOk t (landings x key notes)) (sym (status-other e journal key other)) before
+      ]
+  lands_more (entry.Started step kind try moment) key legal2 never before = absurd (never kind step try moment refl)
+  lands_more e key legal2 never before = subst (λ (t : Status). LandOk t (landings x key notes)) (sym (status-other e journal key refl)) before
+
+-- the other node's landings stay as they were
+others_landings : (x : At) (journal : List Entry) (received : Key → List ℕ) (notes : List Note) (e : Entry) (key : Key)
+    → landings (across x) key (noted_by x journal received e notes) ≡ landings (across x) key notes
+others_landings x journal received notes (entry.Result step o moment) key = by_status (status.status journal step) where
+  by_status : (s : Status) → landings (across x) key (landing_of x s (received step) notes) ≡ landings (across x) key notes
+  by_status status.Fresh = refl
+  by_status (status.Started tries kind) = refl
+  by_status (status.Done before) = refl
+  by_status (status.Open r safe) =
+      cond-false (is_at (across x) x && same_key key r.key) (received step ∷ landings (across x) key notes) (landings (across x) key notes)
+      (ap (λ (b : Bool). b && same_key key r.key) (not_across x))
+others_landings x journal received notes (entry.Receiving r) key = refl
+others_landings x journal received notes e key = refl
+
+-- Both nodes.
+
+abbrev Own : Type 0
+Own = Option (List ℕ × ℕ)
+
+-- what a node has as the outcome of a key
+abbrev pub Of : Half → Key → Outcomes → Type 0
+Of half key o = outcome (journal_of half) key ≡ Some o
+
+pub record BothAgreed (x : At) (own_a own_b : Option (List ℕ × ℕ)) (w : World) : Type 0 where
+  pub a : Agreed x own_a w.a w.b w.notes
+  pub b : Agreed (across x) own_b w.b w.a w.notes
+
+each_more : (P Q : List Entry → ℕ → ℕ → ℕ → Cause → ℕ → Type 0) → ((journal : List Entry) (n place rc : ℕ) (why : Cause) (bytes : ℕ) → P journal n place rc why bytes → Q journal n place rc why bytes)
+    → (journal : List Entry) → EachEnded P journal → EachEnded Q journal
+each_more P Q more [] all = tt
+each_more P Q more (entry.Ended n place rc why bytes moment ∷ journal) all = (more journal n place rc why bytes all.0, each_more P Q more journal all.1)
+each_more P Q more (entry.Home name home ∷ journal) all = each_more P Q more journal all
+each_more P Q more (e ∷ journal) all = each_more P Q more journal all
+
+sent_more : (own : Own) (Says Says2 : Key → Outcomes → Type 0) (journal journal2 : List Entry) → ((key : Key) (o : Outcomes) → outcome journal key ≡ Some o → outcome journal2 key ≡ Some o)
+    → (m : Message) → SentOk own Says journal m → SentOk own Says2 journal2 m
+sent_more own Says Says2 journal journal2 more (message.Result key o) h = more key o h
+sent_more own Says Says2 journal journal2 more m h = tt
+
+all_sent_more : (own own2 : Own) (Says Says2 : Key → Outcomes → Type 0) (journal journal2 : List Entry) → ((key : Key) (o : Outcomes) → outcome journal key ≡ Some o → outcome journal2 key ≡ Some o)
+    → (frames : List Message) → AllSent own Says journal frames → AllSent own2 Says2 journal2 frames
+all_sent_more own own2 Says Says2 journal journal2 more [] h = tt
+all_sent_more own own2 Says Says2 journal journal2 more (m ∷ frames) h = (sent_more own Says Says2 journal journal2 more m h.0, all_sent_more own own2 Says Says2 journal journal2 more frames h.1)
+
+-- beside another state of the other node, which has the same outcomes
+beside : (x : At) (own : Own) (a b b2 : Half) (notes : List Note) → ((key : Key) (o : Outcomes) → Of b key o → Of b2 key o) → Agreed x own a b notes → Agreed x own a b2 notes
+beside x own a b b2 notes more h = record {
+  home = h.home;
+  phases = h.phases;
+  heard = λ n. all_sent_more own own (Of b) (Of b2) (journal_of b) (journal_of b2) more (a.way n) (h.heard n);
+  ended = each_more (EndedKept a.node.desk.config.read (journal_of b)) (EndedKept a.node.desk.config.read (journal_of b2))
+      (λ journal n place rc why bytes k. record {
+        key = k.key;
+        home = k.home;
+        number = k.number;
+        step = k.step;
+        here = k.here;
+        there = λ apart. let is = k.there apart in record { o = is.o; is = more k.key is.o is.is; code = is.code; cause = is.cause; length = is.length };
+      }) (journal_of a) h.ended;
+  plain = h.plain;
+  started = h.started;
+  landed = h.landed;
+}
+
+-- with other notes, of which as much landed
+noted : (x : At) (own : Own) (a b : Half) (notes notes2 : List Note) → ((key : Key) → landings x key notes2 ≡ landings x key notes) → Agreed x own a b notes → Agreed x own a b notes2
+noted x own a b notes notes2 same h = record {
+  home = h.home;
+  phases = h.phases;
+  heard = h.heard;
+  ended = h.ended;
+  plain = h.plain;
+  started = h.started;
+  landed = λ key. subst (λ (landed : List (List ℕ)). LandOk (status.status (journal_of a) key) landed) (sym (same key)) (h.landed key);
+}
+
+pub either_at : {T : Type 0} (P : T → Type 0) (sid : ℕ) (value : T) (others : ℕ → T) → P value → ((n : ℕ) → P (others n)) → (n : ℕ) → P (at_session sid value others n)
+either_at P sid value others one rest n = elim (eqb sid n) as (λ b. P (cond b value (others n))) [ true ↦ one | false ↦ rest n ]
+
+all_sent_append : (own : Own) (Says : Key → Outcomes → Type 0) (journal : List Entry) (first second : List Message) → AllSent own Says journal first → AllSent own Says journal second → AllSent own Says journal (first ++ second)
+all_sent_append own Says journal [] second one two = two
+all_sent_append own Says journal (m ∷ first) second one two = (one.0, all_sent_append own Says journal first second one.1 two)
+
+all_sent_take : (own : Own) (Says : Key → Outcomes → Type 0) (journal : List Entry) (k : ℕ) (frames : List Message) → AllSent own Says journal frames → AllSent own Says journal (take k frames)
+all_sent_take own Says journal zero frames h = tt
+all_sent_take own Says journal (suc k) [] h = tt
+all_sent_take own Says journal (suc k) (m ∷ frames) h = (h.0, all_sent_take own Says journal k frames h.1)
+
+module _ (x : At) (own_a own_b : Own) (sid : ℕ) where
+  keep_agreed : (w : World) (e : Entry) → BothAgreed x own_a own_b w → RecordOk own_a (Of w.b) (journal_of w.a) e → is_legal w.a.node.desk.config.read (e ∷ journal_of w.a) ≡ true
+      → BothAgreed x own_a own_b (world_did x sid (Keep e) w)
+  keep_agreed w e h ok legal2 =
+      let read : Reading = w.a.node.desk.config.read in
+      let journal : List Entry = journal_of w.a in
+      let legal : is_legal read journal ≡ true = (legal_parts read e journal legal2).0 in
+      let w2 : World = world_did x sid (Keep e) w in
+      let more : (key : Key) (o : Outcomes) → Of w.a key o → Of w2.a key o = λ key o is. outcome_stays read (e ∷ []) journal key o legal2 is in
+      record {
+        a = record {
+          home = home_more own_a (Of w.b) journal e ok ∙ h.a.home;
+          phases = h.a.phases;
+          heard = h.a.heard;
+          ended = ended_more own_a (Of w.b) read (journal_of w.b) journal h.a.home legal e legal2 ok (λ key o says. says) h.a.ended;
+          plain = λ key. made_more own_a (Of w.b) journal e key ok (h.a.plain key);
+          started = λ key. not_started_more own_a (Of w.b) journal e key ok (h.a.started key);
+          landed = λ key. lands_more x read journal w.a.received w.notes h.a.plain h.a.started legal e key legal2
+              (λ kind step try moment is. subst (λ (e2 : Entry). RecordOk own_a (Of w.b) journal e2) is ok) (h.a.landed key);
+        };
+        b = noted (across x) own_b w.b w2.a w.notes w2.notes (others_landings x journal w.a.received w.notes e) (beside (across x) own_b w.b w.a w2.a w.notes more h.b);
+      }
+
+  -- what a read adds is no landing
+  read_landings : (y : At) (key : Key) (known : Option Key) (at : ℕ) (bytes : List ℕ) (notes : List Note) → landings y key (read_for x known at bytes notes) ≡ landings y key notes
+  read_landings y key None at bytes notes = refl
+  read_landings y key (Some step) at bytes notes = refl
+
+  same_a : (w w2 : World) → BothAgreed x own_a own_b w → w2.b ≡ w.b → Agreed x own_a w2.a w2.b w2.notes → Agreed (across x) own_b w2.b w2.a w2.notes → BothAgreed x own_a own_b w2
+  same_a w w2 h is one two = record { a = one; b = two }
+
+  begin_agreed : (w : World) (key : Key) (phase : Phase) → BothAgreed x own_a own_b w → PhaseOk own_a (Of w.b) phase → BothAgreed x own_a own_b (world_did x sid (Begin key phase) w)
+  begin_agreed w key phase h ok = record {
+    a = record {
+      home = h.a.home;
+      phases = either_at (PhaseOk own_a (Of w.b)) sid phase w.a.node.sessions.phase ok h.a.phases;
+      heard = h.a.heard;
+      ended = h.a.ended;
+      plain = h.a.plain;
+      started = h.a.started;
+      landed = h.a.landed;
+    };
+    b = beside (across x) own_b w.b w.a (world_did x sid (Begin key phase) w).a w.notes (λ step o is. is) h.b;
+  }
+
+  go_agreed : (w : World) (phase : Phase) (frames : List Message) → BothAgreed x own_a own_b w → PhaseOk own_a (Of w.b) phase → AllSent own_a (Of w.b) (journal_of w.a) frames
+      → BothAgreed x own_a own_b (world_did x sid (Go phase frames) w)
+  go_agreed w phase frames h ok sent_ok = record {
+    a = record {
+      home = h.a.home;
+      phases = either_at (PhaseOk own_a (Of w.b)) sid phase w.a.node.sessions.phase ok h.a.phases;
+      heard = heard_a (is_gone phase);
+      ended = h.a.ended;
+      plain = h.a.plain;
+      started = h.a.started;
+      landed = h.a.landed;
+    };
+    b = record {
+      home = h.b.home;
+      phases = h.b.phases;
+      heard = either_at (AllSent own_b (Of w.a) (journal_of w.a)) sid _ w.b.way (heard_b (w.b.ends sid)) h.b.heard;
+      ended = h.b.ended;
+      plain = h.b.plain;
+      started = h.b.started;
+      landed = h.b.landed;
+    };
+  } where
+    heard_a : (b : Bool) (n : ℕ) → AllSent own_a (Of w.b) (journal_of w.b) (cond b (at_session sid [] w.a.way) w.a.way n)
+    heard_a true = either_at (AllSent own_a (Of w.b) (journal_of w.b)) sid [] w.a.way tt h.a.heard
+    heard_a false = h.a.heard
+
+    heard_b : (b : Bool) → AllSent own_b (Of w.a) (journal_of w.a) (behind_them b (w.b.way sid) frames)
+    heard_b true = h.b.heard sid
+    heard_b false = all_sent_append own_b (Of w.a) (journal_of w.a) (w.b.way sid) frames (h.b.heard sid)
+        (all_sent_more own_a own_b (Of w.b) (Of w.a) (journal_of w.a) (journal_of w.a) (λ key o is. is) frames sent_ok)
+
+  -- deeds, one after another
+  does_agreed : (deeds : List Deed) (w : World) → BothAgreed x own_a own_b w → AllFit own_a (Of w.b) (journal_of w.a) deeds
+      → is_legal w.a.node.desk.config.read (does sid deeds w.a.node).desk.journal ≡ true → BothAgreed x own_a own_b (world_does x sid deeds w)
+  does_agreed [] w h fit legal = h
+  does_agreed (Keep e ∷ deeds) w h fit legal =
+      let rest = part_extends sid deeds (did sid (Keep e) w.a.node) in
+      let legal2 : is_legal w.a.node.desk.config.read (e ∷ journal_of w.a) ≡ true =
+      legal_before w.a.node.desk.config.read rest.0 (e ∷ journal_of w.a) (subst (λ (journal : List Entry). is_legal w.a.node.desk.config.read journal ≡ true) rest.1 legal) in
+      does_agreed deeds (world_did x sid (Keep e) w) (keep_agreed w e h (record_ok own_a (Of w.b) (journal_of w.a) e fit.0) legal2) fit.1 legal
+  does_agreed (Touch change ∷ deeds) w h fit legal =
+      let w2 : World = world_did x sid (Touch change) w in
+      does_agreed deeds w2 (record {
+        a = record { home = h.a.home; phases = h.a.phases; heard = h.a.heard; ended = h.a.ended; plain = h.a.plain; started = h.a.started; landed = h.a.landed };
+        b = beside (across x) own_b w.b w.a w2.a w.notes (λ key o is. is) h.b;
+      }) fit legal
+  does_agreed (AskSize name ∷ deeds) w h fit legal =
+      let w2 : World = world_did x sid (AskSize name) w in
+      does_agreed deeds w2 (record {
+        a = noted x own_a w.a w.b w.notes w2.notes (λ key. refl) h.a;
+        b = noted (across x) own_b w.b w.a w.notes w2.notes (λ key. refl) h.b;
+      }) fit legal
+  does_agreed (AskBytes name at len ∷ deeds) w h fit legal =
+      let w2 : World = world_did x sid (AskBytes name at len) w in
+      does_agreed deeds w2 (record {
+        a = noted x own_a w.a w.b w.notes w2.notes (λ key. read_landings x key _ at _ w.notes) h.a;
+        b = noted (across x) own_b w.b w.a w.notes w2.notes (λ key. read_landings (across x) key _ at _ w.notes) h.b;
+      }) fit legal
+  does_agreed (Begin key phase ∷ deeds) w h fit legal = does_agreed deeds (world_did x sid (Begin key phase) w) (begin_agreed w key phase h fit.0) fit.1 legal
+  does_agreed (Go phase frames ∷ deeds) w h fit legal = does_agreed deeds (world_did x sid (Go phase frames) w) (go_agreed w phase frames h fit.0 fit.1) fit.2 legal
+
+fit_first : (own : Own) (Says : Key → Outcomes → Type 0) (done more : List Deed) (journal : List Entry) → AllFit own Says journal (done ++ more) → AllFit own Says journal done
+fit_first own Says [] more journal fit = tt
+fit_first own Says (Keep e ∷ done) more journal fit = (fit.0, fit_first own Says done more (e ∷ journal) fit.1)
+fit_first own Says (Touch change ∷ done) more journal fit = fit_first own Says done more journal fit
+fit_first own Says (AskSize name ∷ done) more journal fit = fit_first own Says done more journal fit
+fit_first own Says (AskBytes name at len ∷ done) more journal fit = fit_first own Says done more journal fit
+fit_first own Says (Begin key phase ∷ done) more journal fit = (fit.0, fit_first own Says done more journal fit.1)
+fit_first own Says (Go phase frames ∷ done) more journal fit = (fit.0, fit.1, fit_first own Says done more journal fit.2)
+
+-- Events.
+
+heard_ok : (own : Own) (other : Half) (m : Message) → SentOk own (Of other) (journal_of other) m → HeardOk own (Of other) m
+heard_ok own other (message.Result key o) h = h
+heard_ok own other m h = tt
+
+-- a task begins in such a world, and its deeds fit
+record FitsTask (x : At) (own_a own_b : Own) (t : Task) : Type 0 where
+  agreed : BothAgreed x own_a own_b t.world
+  fit : AllFit own_a (Of t.world.b) (journal_of t.world.a) t.deeds
+
+module _ (x : At) (own_a own_b : Own) (w : World) (h : BothAgreed x own_a own_b w) (sound : BothSound w) where
+  nothing_fits : FitsTask x own_a own_b (nothing w)
+  nothing_fits = record { agreed = h; fit = tt }
+
+  chosen_fits : (connected b : Bool) → FitsTask x own_a own_b (record { sid = w.sessions; deeds = row_choose w.a.node w.clock connected; world = cond b (with_session w) w })
+  chosen_fits connected false = record { agreed = h; fit = choose_ok own_a (Of w.b) w.a.node w.clock connected }
+  chosen_fits connected true = record {
+    agreed = record {
+      a = record {
+        home = h.a.home;
+        phases = h.a.phases;
+        heard = either_at (AllSent own_a (Of w.b) (journal_of w.b)) w.sessions [] w.a.way tt h.a.heard;
+        ended = h.a.ended;
+        plain = h.a.plain;
+        started = h.a.started;
+        landed = h.a.landed;
+      };
+      b = record {
+        home = h.b.home;
+        phases = h.b.phases;
+        heard = either_at (AllSent own_b (Of w.a) (journal_of w.a)) w.sessions [] w.b.way tt h.b.heard;
+        ended = h.b.ended;
+        plain = h.b.plain;
+        started = h.b.started;
+        landed = h.b.landed;
+      };
+    };
+    fit = choose_ok own_a (Of w.b) w.a.node w.clock connected;
+  }
+
+  -- the first node changed, but for its desk, its phases and what was sent to it
+  with_a : (a2 : Half) → a2.node.desk ≡ w.a.node.desk → ((n : ℕ) → PhaseOk own_a (Of w.b) (a2.node.sessions.phase n)) → ((n : ℕ) → AllSent own_a (Of w.b) (journal_of w.b) (a2.way n))
+      → BothAgreed x own_a own_b (record w { a = a2 })
+  with_a a2 same phases heard = record {
+    a = record {
+      home = subst (λ (d : Desk). own_home d.journal ≡ own_a) (sym same) h.a.home;
+      phases = phases;
+      heard = heard;
+      ended = subst (λ (d : Desk). EachEnded (EndedKept d.config.read (journal_of w.b)) d.journal) (sym same) h.a.ended;
+      plain = subst (λ (d : Desk). (key : Key) → made_for d.journal key ≡ None) (sym same) h.a.plain;
+      started = subst (λ (d : Desk). (key : Key) → NotStarted (status.status d.journal key)) (sym same) h.a.started;
+      landed = subst (λ (d : Desk). (key : Key) → LandOk (status.status d.journal key) (landings x key w.notes)) (sym same) h.a.landed;
+    };
+    b = beside (across x) own_b w.b w.a a2 w.notes (subst (λ (d : Desk). (key : Key) (o : Outcomes) → Of w.a key o → outcome d.journal key ≡ Some o) (sym same) (λ key o is. is)) h.b;
+  }
+
+  called_fits : (calls : List ℕ) → FitsTask x own_a own_b (called w calls)
+  called_fits [] = nothing_fits
+  called_fits (sid ∷ more) = record { agreed = with_a (called w (sid ∷ more)).world.a refl h.a.phases h.a.heard; fit = (tt, tt, tt) }
+
+  came_fits : (sid : ℕ) (answers : Answers) (frames : List Message) → w.a.way sid ≡ frames → FitsTask x own_a own_b (came w sid answers frames)
+  came_fits sid answers [] is = nothing_fits
+  came_fits sid answers (m ∷ more) is =
+      let first : AllSent own_a (Of w.b) (journal_of w.b) (m ∷ more) = subst (AllSent own_a (Of w.b) (journal_of w.b)) is (h.a.heard sid) in
+      record {
+        agreed = with_a (came w sid answers (m ∷ more)).world.a refl h.a.phases (either_at (AllSent own_a (Of w.b) (journal_of w.b)) sid more w.a.way first.1 h.a.heard);
+        fit = row_ok own_a (Of w.b) w.a.node sid (answers_now w answers) m h.a.home
+            (λ key r safe is_open. (openings.open-on w.a.node.desk.config.read (journal_of w.a) key r safe sound.a.legal is_open).0)
+            (h.a.phases sid) (heard_ok own_a w.b m first.0);
+      }
+
+  ended_fits : (sid : ℕ) (b : Bool) (frames : List Message) → FitsTask x own_a own_b (ended w sid b frames)
+  ended_fits sid true [] = record { agreed = h; fit = close_ok own_a (Of w.b) w.a.node.desk w.clock (w.a.node.sessions.phase sid) }
+  ended_fits sid true (m ∷ frames) = nothing_fits
+  ended_fits sid false frames = nothing_fits
+
+  unless_fits : (b : Bool) (t : Task) → FitsTask x own_a own_b t → FitsTask x own_a own_b (cond b (nothing w) t)
+  unless_fits true t fits = nothing_fits
+  unless_fits false t fits = fits
+
+  while_fits : (b : Bool) (t : Task) → FitsTask x own_a own_b t → FitsTask x own_a own_b (cond b t (nothing w))
+  while_fits true t fits = fits
+  while_fits false t fits = nothing_fits
+
+  task_of_fits : (happening : Happening) → FitsTask x own_a own_b (task_of w happening)
+  task_of_fits (Choice connected) = chosen_fits (connected && w.b.up) (opens (row_choose w.a.node w.clock (connected && w.b.up)))
+  task_of_fits Call = called_fits w.a.calls
+  task_of_fits (Frame sid answers) = unless_fits (is_gone (w.a.node.sessions.phase sid)) _ (came_fits sid answers (w.a.way sid) refl)
+  task_of_fits (End sid) = unless_fits (is_gone (w.a.node.sessions.phase sid)) _ (ended_fits sid (w.a.ends sid) (w.a.way sid))
+
+  task_fits : (happening : Happening) → FitsTask x own_a own_b (task w happening)
+  task_fits happening = while_fits w.a.up (task_of w happening) (task_of_fits happening)
+
+  -- after a first part of a task
+  part_agreed : (t : Task) → FitsTask x own_a own_b t → (done more : List Deed) → t.deeds ≡ done ++ more
+      → BothGrown w (world_does x t.sid done t.world) → BothAgreed x own_a own_b (world_does x t.sid done t.world)
+  part_agreed t fits done more split grown =
+      let fit : AllFit own_a (Of t.world.b) (journal_of t.world.a) done = fit_first own_a (Of t.world.b) done more (journal_of t.world.a) (subst (AllFit own_a (Of t.world.b) (journal_of t.world.a)) split fits.fit) in
+      let there : is_legal (does t.sid done t.world.a.node).desk.config.read (does t.sid done t.world.a.node).desk.journal ≡ true =
+      subst (λ (node : Node). is_legal node.desk.config.read node.desk.journal ≡ true) (does_node x t.sid done t.world) grown.a.sound.legal in
+      does_agreed x own_a own_b t.sid done t.world fits.agreed fit
+      (subst (λ (c : Config). is_legal c.read (does t.sid done t.world.a.node).desk.journal ≡ true) (same_config t.sid done t.world.a.node) there)
+
+  within_agreed : (happening : Happening) (k : ℕ) → BothAgreed x own_a own_b (world_within x happening k w)
+  within_agreed happening k =
+      part_agreed (task w happening) (task_fits happening) (take k (task w happening).deeds) (drop k (task w happening).deeds)
+      (sym (take-append-drop k (task w happening).deeds)) (within_grown x w sound happening k)
+
+  whole_agreed : (happening : Happening) → BothAgreed x own_a own_b (world_after x happening w)
+  whole_agreed happening =
+      part_agreed (task w happening) (task_fits happening) (task w happening).deeds [] (sym (append-nil (task w happening).deeds)) (whole_grown x w sound happening)
+
+faulted_agreed : (x : At) (own_a own_b : Own) (w : World) → BothAgreed x own_a own_b w → BothSound w → (happening : Happening) (k : ℕ) (cut : Cut) → BothAgreed x own_a own_b (world_faulted x happening k cut w)
+faulted_agreed x own_a own_b w h sound happening k cut =
+    let first : World = world_within x happening k w in
+    let short : World = with_shelf (cut_off cut (deeds_left happening k w) first.a.node.shelf) first in
+    let grown : BothGrown w first = within_grown x w sound happening k in
+    let agreed : BothAgreed x own_a own_b first = within_agreed x own_a own_b w h sound happening k in
+    let first_sound : BothSound first = record { a = grown.a.sound; b = grown.b.sound } in
+    let short_sound : BothSound short = record { a = grown.a.sound; b = grown.b.sound } in
+    let short_agreed : BothAgreed x own_a own_b short = with_a x own_a own_b first agreed first_sound short.a refl agreed.a.phases agreed.a.heard in
+    let sid : ℕ = (task w happening).sid in
+    let trouble : Task = record { sid = sid; deeds = row_trouble short.a.node sid short.clock; world = short } in
+    part_agreed x own_a own_b short short_agreed short_sound trouble
+    (record { agreed = short_agreed; fit = trouble_ok own_a (Of short.b) short.a.node.desk short.clock (short.a.node.sessions.phase sid) (short_agreed.a.phases sid) })
+    trouble.deeds [] (sym (append-nil trouble.deeds)) (trouble_grown x short short_sound sid)
+
+module _ (x : At) (own_a own_b : Own) (w : World) (h : BothAgreed x own_a own_b w) where
+  down_agreed : (image : shelves.FileMap) → BothAgreed x own_a own_b (down image w)
+  down_agreed image = record {
+    a = record { home = h.a.home; phases = λ n. tt; heard = λ n. tt; ended = h.a.ended; plain = h.a.plain; started = h.a.started; landed = h.a.landed };
+    b = record { home = h.b.home; phases = h.b.phases; heard = h.b.heard; ended = h.b.ended; plain = h.b.plain; started = h.b.started; landed = h.b.landed };
+  }
+
+  -- the first node changed, but for its desk and its phases, and no more frames are on the way to it
+  changed_agreed : (a2 : Half) (clock : ℕ) → a2.node.desk ≡ w.a.node.desk → a2.node.sessions ≡ w.a.node.sessions → ((n : ℕ) → AllSent own_a (Of w.b) (journal_of w.b) (a2.way n))
+      → BothAgreed x own_a own_b (record w { a = a2; clock = clock })
+  changed_agreed a2 clock same sessions heard = record {
+    a = record {
+      home = subst (λ (d : Desk). own_home d.journal ≡ own_a) (sym same) h.a.home;
+      phases = subst (λ (s : Sessions). (n : ℕ) → PhaseOk own_a (Of w.b) (s.phase n)) (sym sessions) h.a.phases;
+      heard = heard;
+      ended = subst (λ (d : Desk). EachEnded (EndedKept d.config.read (journal_of w.b)) d.journal) (sym same) h.a.ended;
+      plain = subst (λ (d : Desk). (key : Key) → made_for d.journal key ≡ None) (sym same) h.a.plain;
+      started = subst (λ (d : Desk). (key : Key) → NotStarted (status.status d.journal key)) (sym same) h.a.started;
+      landed = subst (λ (d : Desk). (key : Key) → LandOk (status.status d.journal key) (landings x key w.notes)) (sym same) h.a.landed;
+    };
+    b = beside (across x) own_b w.b w.a a2 w.notes (subst (λ (d : Desk). (key : Key) (o : Outcomes) → Of w.a key o → outcome d.journal key ≡ Some o) (sym same) (λ key o is. is)) h.b;
+  }
+
+  started_agreed : (b : Bool) → BothAgreed x own_a own_b (cond b w (record w { a = record w.a { node = record w.a.node { sessions = no_sessions }; up = true; received = marked w.a.node.desk.journal w.a.received } }))
+  started_agreed true = h
+  started_agreed false = record {
+    a = record { home = h.a.home; phases = λ n. tt; heard = h.a.heard; ended = h.a.ended; plain = h.a.plain; started = h.a.started; landed = h.a.landed };
+    b = record { home = h.b.home; phases = h.b.phases; heard = h.b.heard; ended = h.b.ended; plain = h.b.plain; started = h.b.started; landed = h.b.landed };
+  }
+
+  lost_agreed : (sid k : ℕ) → BothAgreed x own_a own_b (world_lost sid k w)
+  lost_agreed sid k =
+      changed_agreed (world_lost sid k w).a w.clock refl refl
+      (either_at (AllSent own_a (Of w.b) (journal_of w.b)) sid (take k (w.a.way sid)) w.a.way (all_sent_take own_a (Of w.b) (journal_of w.b) k (w.a.way sid) (h.a.heard sid)) h.a.heard)
+
+  written_agreed : (name bytes : List ℕ) → BothAgreed x own_a own_b (world_written name bytes w)
+  written_agreed name bytes = changed_agreed (world_written name bytes w).a w.clock refl refl h.a.heard
+
+  later_agreed : (seconds : ℕ) → BothAgreed x own_a own_b (later seconds w)
+  later_agreed seconds = changed_agreed w.a (w.clock + seconds) refl refl h.a.heard
+
+  submitted_agreed : (sound : BothSound w) (card : Filed) (text : List ℕ) → BothAgreed x own_a own_b (world_submitted card text w)
+  submitted_agreed sound card text =
+      let e : Entry = submission_of card text w in
+      let new : World = record w { a = record w.a { node = record w.a.node { desk = recorded e w.a.node.desk } } } in
+      let read : Reading = w.a.node.desk.config.read in
+      let test : Bool = w.a.up && allowed read (journal_of w.a) e in
+      elim (cases_Bool test) [
+        | inl fits ↦
+            let may : allowed read (journal_of w.a) e ≡ true = (and_parts w.a.up (allowed read (journal_of w.a) e) fits).1 in
+            let legal2 : is_legal read (e ∷ journal_of w.a) ≡ true = legal_more w sound read e (journal_of w.a) sound.a.legal may in
+            let kept2 : BothAgreed x own_a own_b (world_did x 0 (Keep e) w) = keep_agreed x own_a own_b 0 w e h tt legal2 in
+            subst (λ (b : Bool). BothAgreed x own_a own_b (cond b new w)) (sym fits) kept2
+        | inr none ↦ subst (λ (b : Bool). BothAgreed x own_a own_b (cond b new w)) (sym none) h
+      ]
+
+stopped_agreed : (x : At) (own_a own_b : Own) (w : World) → BothAgreed x own_a own_b w → BothSound w → (happening : Happening) (k : ℕ) (image : shelves.FileMap) (b : Bool)
+    → BothAgreed x own_a own_b (cond b (down image (world_within x happening k w)) w)
+stopped_agreed x own_a own_b w h sound happening k image true = down_agreed x own_a own_b (world_within x happening k w) (within_agreed x own_a own_b w h sound happening k) image
+stopped_agreed x own_a own_b w h sound happening k image false = h
+
+-- an event at either node
+there : (x : At) (own_a own_b : Own) (w : World) (f : World → World) → ((own own2 : Own) → BothAgreed x own own2 (seen_from x w) → BothSound (seen_from x w) → BothAgreed x own own2 (f (seen_from x w)))
+    → BothAgreed A own_a own_b w → BothSound w → BothAgreed A own_a own_b (seen_from x (f (seen_from x w)))
+there A own_a own_b w f step h sound = step own_a own_b h sound
+there B own_a own_b w f step h sound = let done = step own_b own_a (record { a = h.b; b = h.a }) (record { a = sound.b; b = sound.a }) in record { a = done.b; b = done.a }
+
+pub happens_agreed : (own_a own_b : Own) (w : World) (event : Event) → BothAgreed A own_a own_b w → BothSound w → BothAgreed A own_a own_b (happens w event)
+happens_agreed own_a own_b w (Does x happening) h sound =
+    there x own_a own_b w (world_after x happening) (λ own own2 h2 sound2. whole_agreed x own own2 (seen_from x w) h2 sound2 happening) h sound
+happens_agreed own_a own_b w (Fails x happening k cut) h sound =
+    there x own_a own_b w (world_faulted x happening k cut) (λ own own2 h2 sound2. faulted_agreed x own own2 (seen_from x w) h2 sound2 happening k cut) h sound
+happens_agreed own_a own_b w (Stops x happening k image) h sound =
+    there x own_a own_b w (world_stopped x happening k image) (λ own own2 h2 sound2. stopped_agreed x own own2 (seen_from x w) h2 sound2 happening k image (seen_from x w).a.up) h sound
+happens_agreed own_a own_b w (Starts x) h sound =
+    there x own_a own_b w world_started (λ own own2 h2 sound2. started_agreed x own own2 (seen_from x w) h2 (seen_from x w).a.up) h sound
+happens_agreed own_a own_b w (Loses x sid k) h sound =
+    there x own_a own_b w (world_lost sid k) (λ own own2 h2 sound2. lost_agreed x own own2 (seen_from x w) h2 sid k) h sound
+happens_agreed own_a own_b w (Writes x name bytes) h sound =
+    there x own_a own_b w (world_written name bytes) (λ own own2 h2 sound2. written_agreed x own own2 (seen_from x w) h2 name bytes) h sound
+happens_agreed own_a own_b w (Later seconds) h sound = later_agreed A own_a own_b w h seconds
+happens_agreed own_a own_b w (Submits x card text) h sound =
+    there x own_a own_b w (world_submitted card text) (λ own own2 h2 sound2. submitted_agreed x own own2 (seen_from x w) h2 sound2 card text) h sound
+
+pub after_agreed : (own_a own_b : Own) (w : World) (events : List Event) → BothAgreed A own_a own_b w → BothSound w → BothAgreed A own_a own_b (after w events)
+after_agreed own_a own_b w [] h sound = h
+after_agreed own_a own_b w (event ∷ events) h sound =
+    let grown : BothGrown w (happens w event) = happens_grown w event sound in
+    after_agreed own_a own_b (happens w event) events (happens_agreed own_a own_b w event h sound) (record { a = grown.a.sound; b = grown.b.sound })
+
+-- The first world.
+
+home_first : (name : List ℕ) (home : ℕ) → own_home (entry.Home name home ∷ []) ≡ Some (name, home)
+unfolding own_home
+home_first name home = refl
+
+made_first : (name : List ℕ) (home : ℕ) (key : Key) → made_for (entry.Home name home ∷ []) key ≡ None
+unfolding made_for
+made_first name home key = refl
+
+pub fresh_first : (name : List ℕ) (home : ℕ) (key : Key) → status.status (entry.Home name home ∷ []) key ≡ status.Fresh
+unfolding status.status
+fresh_first name home key = refl
+
+new_agreed : (x : At) (name : List ℕ) (home : ℕ) (half other : Half) (notes : List Note) → notes ≡ [] → IsNew name home half → Agreed x (Some (name, home)) half other notes
+new_agreed x name home half other notes none new =
+    let fresh : (key : Key) → status.status (journal_of half) key ≡ status.Fresh = λ key. ap (λ (journal : List Entry). status.status journal key) new.journal ∙ fresh_first name home key in
+    record {
+      home = ap own_home new.journal ∙ home_first name home;
+      phases = subst (λ (s : Sessions). (n : ℕ) → PhaseOk (Some (name, home)) (Of other) (s.phase n)) (sym new.sessions) (λ n. tt);
+      heard = subst (λ (way : ℕ → List Message). (n : ℕ) → AllSent (Some (name, home)) (Of other) (journal_of other) (way n)) (sym new.way) (λ n. tt);
+      ended = subst (λ (journal : List Entry). EachEnded (EndedKept half.node.desk.config.read (journal_of other)) journal) (sym new.journal) tt;
+      plain = λ key. ap (λ (journal : List Entry). made_for journal key) new.journal ∙ made_first name home key;
+      started = λ key. subst NotStarted (sym (fresh key)) tt;
+      landed = λ key. subst (λ (s : Status). LandOk s (landings x key notes)) (sym (fresh key)) (ap (landings x key) none);
+    }
+
+pub first_agreed : (w : World) (first : IsFirst w) → BothAgreed A (Some (first.name_a, first.home_a)) (Some (first.name_b, first.home_b)) w
+first_agreed w first = record {
+  a = new_agreed A first.name_a first.home_a w.a w.b w.notes first.notes first.a;
+  b = new_agreed B first.name_b first.home_b w.b w.a w.notes first.notes first.b;
+}
+
+-- The promises.
+
+named : Option (List ℕ × ℕ) → List ℕ × ℕ
+named None = ([], 0)
+named (Some known) = known
+
+same_step : (journal : List Entry) (n place : ℕ) (a b : Key) → own_home journal ≡ Some (a.pnode, a.home) → a.number ≡ n → a.place ≡ place → IsOwnStep journal n place b → a ≡ b
+unfolding named
+same_step journal n place a b home number step is =
+    let known : Some (a.pnode, a.home) ≡ Some (b.pnode, b.home) = sym home ∙ is.home in
+    let pnode : a.pnode ≡ b.pnode = ap (λ (o : Option (List ℕ × ℕ)). (named o).0) known in
+    let identity : a.home ≡ b.home = ap (λ (o : Option (List ℕ × ℕ)). (named o).1) known in
+    let numbers : a.number ≡ b.number = number ∙ sym is.number in
+    let places : a.place ≡ b.place = step ∙ sym is.step in
+    λ i. record { pnode = pnode i; home = identity i; number = numbers i; place = places i }
+
+results_of : (x : At) (own : Own) (a b : Half) (notes : List Note) → Agreed x own a b notes → EachEnded (EndsAsKept a.node.desk.config.read (journal_of b)) (journal_of a)
+results_of x own a b notes h =
+    each_more (EndedKept a.node.desk.config.read (journal_of b)) (EndsAsKept a.node.desk.config.read (journal_of b))
+    (λ journal n place rc why bytes k key is apart.
+    subst (λ (step : Key). IsOutcome (journal_of b) step rc why bytes) (same_step journal n place k.key key k.home k.number k.step is) (k.there apart))
+    (journal_of a) h.ended
+
+some_done : (s : Status) (o : Outcomes) → status.done_with s ≡ Some o → s ≡ status.Done o
+some_done status.Fresh o is = absurd cc
+some_done (status.Started tries kind) o is = absurd cc
+some_done (status.Open r safe) o is = absurd cc
+some_done (status.Done before) o is = cc
+
+landed_once : (journal : List Entry) (key : Key) (o : Outcomes) (landed : List (List ℕ)) → outcome journal key ≡ Some o → o.rc ≡ 0 → LandOk (status.status journal key) landed → IsOne landed
+landed_once journal key o landed is code ok =
+    subst (λ (s : Status). LandOk s landed) (some_done (status.status journal key) o (sym (outcome-status journal key) ∙ is)) ok code
+
+module _ (x : At) (read : Reading) (whole other : List Entry) (notes : List Note) (here : (key : Key) → LandOk (status.status whole key) (landings x key notes))
+    (across_it : (key : Key) → LandOk (status.status other key) (landings (across x) key notes)) where
+  one_lands : (journal : List Entry) (n place rc : ℕ) (why : Cause) (bytes : ℕ) → ((key : Key) (o : Outcomes) → outcome journal key ≡ Some o → outcome whole key ≡ Some o)
+      → EndedKept read other journal n place rc why bytes → LandsOnce x read notes journal n place rc why bytes
+  one_lands journal n place rc why bytes reach k key step is copy code =
+      let same : k.key ≡ key = same_step journal n place k.key key k.home k.number k.step is in
+      elim (cases_Bool step.push) [
+        | inl push ↦
+            let kept = k.there (ap (is_such pnode_keeps) copy ∙ ap not push) in
+            let found : outcome other key ≡ Some kept.o = subst (λ (s : Key). outcome other s ≡ Some kept.o) same kept.is in
+            subst (λ (b : Bool). IsOne (landings (cond b (across x) x) key notes)) (sym push)
+            (landed_once other key kept.o (landings (across x) key notes) found (kept.code ∙ code) (across_it key))
+        | inr pull ↦
+            let kept = k.here (ap (is_such pnode_keeps) copy ∙ ap not pull) in
+            let found : outcome whole key ≡ Some kept.o = reach key kept.o (subst (λ (s : Key). outcome journal s ≡ Some kept.o) same kept.is) in
+            subst (λ (b : Bool). IsOne (landings (cond b (across x) x) key notes)) (sym pull)
+            (landed_once whole key kept.o (landings x key notes) found (kept.code ∙ code) (here key))
+      ]
+
+  all_land : (journal : List Entry) → is_legal read journal ≡ true → ((key : Key) (o : Outcomes) → outcome journal key ≡ Some o → outcome whole key ≡ Some o)
+      → EachEnded (EndedKept read other) journal → EachEnded (LandsOnce x read notes) journal
+  all_land [] legal reach all = tt
+  all_land (entry.Ended n place rc why bytes moment ∷ journal) legal reach all =
+      let e : Entry = entry.Ended n place rc why bytes moment in
+      let reach2 : (key : Key) (o : Outcomes) → outcome journal key ≡ Some o → outcome whole key ≡ Some o = λ key o is. reach key o (outcome_stays read (e ∷ []) journal key o legal is) in
+      (one_lands journal n place rc why bytes reach2 all.0, all_land journal (legal_parts read e journal legal).0 reach2 all.1)
+  all_land (entry.Home name home ∷ journal) legal reach all =
+      all_land journal (legal_parts read _ journal legal).0 (λ key o is. reach key o (outcome_stays read (entry.Home name home ∷ []) journal key o legal is)) all
+  all_land (e ∷ journal) legal reach all = all_land journal (legal_parts read e journal legal).0 (λ key o is. reach key o (outcome_stays read (e ∷ []) journal key o legal is)) all
+
+pub events_results : (w : World) (events : List Event) → IsFirst w → ArePossible w events → HaveResults (after w events)
+events_results w events first possible =
+    let h : BothAgreed A (Some (first.name_a, first.home_a)) (Some (first.name_b, first.home_b)) (after w events) = after_agreed _ _ w events (first_agreed w first) (first_sound w first) in
+    record { a = results_of A _ (after w events).a (after w events).b (after w events).notes h.a; b = results_of B _ (after w events).b (after w events).a (after w events).notes h.b }
+
+pub events_land : (w : World) (events : List Event) → IsFirst w → ArePossible w events → HaveLanded (after w events)
+events_land w events first possible =
+    let h : BothAgreed A (Some (first.name_a, first.home_a)) (Some (first.name_b, first.home_b)) (after w events) = after_agreed _ _ w events (first_agreed w first) (first_sound w first) in
+    let grown : BothGrown w (after w events) = after_grown w events (first_sound w first) in
+    let v : World = after w events in
+    record {
+      a = all_land A v.a.node.desk.config.read (journal_of v.a) (journal_of v.b) v.notes h.a.landed h.b.landed (journal_of v.a) grown.a.sound.legal (λ key o is. is) h.a.ended;
+      b = all_land B v.b.node.desk.config.read (journal_of v.b) (journal_of v.a) v.notes h.b.landed h.a.landed (journal_of v.b) grown.b.sound.legal (λ key o is. is) h.b.ended;
+    }

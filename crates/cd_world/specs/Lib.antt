@@ -1,0 +1,10 @@
+pub mod AgreedLaw
+pub mod DeedsLaw
+pub mod FrontsLaw
+pub mod GrownLaw
+pub mod Holds
+pub mod KeptLaw
+pub mod PiecesLaw
+pub mod SourcesLaw
+pub mod WholeLaw
+pub mod World

@@ -1,0 +1,758 @@
+-- What the deeds of every row are like for the bytes that are received: who speaks in a session, what is marked, what lands,
+-- and which bytes are written and sent.
+use Rattle.std.proofs.Common.{◌≡◌, ℕ, zero, suc, ◌+◌, ◌-◌, ◌≤◌, Bool, true, false, cond, ◌&&◌, eqb, ltb, leb, List, [], ◌∷◌, ◌++◌, length, Option, Some, None, ◌⊎◌, inl, inr, refl, sym, ◌∙◌, ap, subst, min, take, drop, arith, length-take}
+use Rattle.std.specs.Prelude.{◌%◌, ◌||◌, not}
+use Rattle.std.specs.Str.{bytes_eq}
+use Rattle.std.proofs.lemmas.Bool.{cases_Bool, and_parts, or_parts, cond-true, cond-false, false≢true, eqb-true, eq-eqb, leb-true}
+use Rattle.cd_outside.specs.Content.{overwritten}
+use Rattle.cd_types.specs.declared.choices.Cause.{Cause}
+use Rattle.cd_types.specs.declared.choices.Cause.TheVariants as cause
+use Rattle.cd_types.specs.declared.choices.Disp.{Disp}
+use Rattle.cd_types.specs.declared.choices.Disp.TheVariants as disp
+use Rattle.cd_types.specs.declared.choices.Side.{Side}
+use Rattle.cd_types.specs.declared.choices.Side.TheVariants as side
+use Rattle.cd_types.specs.declared.key.Key.{Key}
+use Rattle.cd_types.specs.declared.rows.Outcomes.{Outcomes}
+use Rattle.cd_types.specs.declared.rows.Placing.{Placing}
+use Rattle.cd_types.specs.declared.rows.Receiving.{Receiving}
+use Rattle.cd_entries.specs.declared.entry.Entry.{Entry}
+use Rattle.cd_entries.specs.declared.entry.Entry.TheVariants as entry
+use Rattle.cd_ast.specs.declared.process.CopyStep.{CopyStep}
+use Rattle.cd_ast.specs.declared.process.What.{What}
+use Rattle.cd_ast.specs.declared.process.What.TheVariants as what
+use Rattle.cd_outside.specs.Shelf as shelves
+use Rattle.cd_frames.specs.Message as message
+use Rattle.cd_frames.specs.Message.{Message}
+use Rattle.cd_frames.specs.declared.frame.Hello.{Hello}
+use Rattle.cd_frames.specs.declared.frame.RejectCause.TheVariants as reject
+use Rattle.cd_frames.specs.declared.frame.Welcome.{Welcome}
+use Rattle.cd_status.specs.Keys.{same_key, is_of}
+use Rattle.cd_status.specs.KeysLaw.{same_key-refl, same_key-true}
+use Rattle.cd_status.specs.Openings.{is_in_use, is_receiving_for}
+use Rattle.cd_status.specs.Processes.{submission, own_home, is_live, is_forgotten, is_over}
+use Rattle.cd_types.specs.declared.rows.Row.{Row}
+use Rattle.cd_status.specs.Queue.{Waits, placing, next_due}
+use Rattle.cd_status.specs.Status as status
+use Rattle.cd_status.specs.Status.{Status, outcome}
+use Rattle.cd_status.specs.StatusLaw.{status-own}
+use Rattle.cd_legal.specs.Legal.{greatest_file}
+use Rattle.cd_legal.specs.Steps.{next_place, what_at}
+use Rattle.cd_moves.specs.declared.session.Talk.{Talk}
+use Rattle.cd_moves.specs.declared.session.Source.{Source}
+use Rattle.cd_moves.specs.declared.session.Announced.{Announced}
+use Rattle.cd_moves.specs.declared.session.Phase.{Phase}
+use Rattle.cd_moves.specs.declared.session.Phase.TheVariants.{Gone, Greet, Await, Ask, Fresh, Ready, Offer, Send, Take}
+use Rattle.cd_moves.specs.declared.session.Then.{Then}
+use Rattle.cd_moves.specs.declared.session.Then.TheVariants.{Done, Next, Undo, Push, Offered, Onto, Piece}
+use Rattle.cd_moves.specs.Closing.{own_number, key_under_way, is_running, retry, retry_own, close, trouble_for, trouble}
+use Rattle.cd_moves.specs.Node.{Desk, Sessions, Node, Deed, Keep, Touch, AskSize, AskBytes, Begin, Go, Part, only, put, did, does, Answers}
+use Rattle.cd_moves.specs.Receiving.{failed, answer, drop_back, undo, undone, given_up, resume, receive_anew, is_same_receiving, receive_again, receive_first, receive_from, receive, kept_base, is_there, is_new, receiving_of, target_known, is_piece_at, marks_at, take_piece, landed_whole, land, gives_up}
+use Rattle.cd_moves.specs.Rows.{are_allowed, checked, own_talk, held, rejected, is_called, run, row_greet, ready_from, row_await, announced_by, receive_announced, row_ask, row_send, row_take_of, row_take, welcome, row_fresh, is_number_of, is_of_talk, with_number, is_newer, answered, unless_done, take_step, offered, forget, is_in_place, row_ready, row_offer, part_in, is_dead, is_sid, is_detached, first_part, source_in, part_behind, asked, is_done, all_parts, most_parts, row, hello, connect, call, row_chosen, row_choose, busy}
+use Rattle.cd_moves.specs.Sending.{after_sending, send_from, piece_len, piece_read, interval_of, push, push_of, source_known, pull, copy, finish, begin, ended, step_at, key_at, next_step, next, settled}
+use Rattle.cd_outside.specs.Shelf.{FileChange, WriteFile}
+use Rattle.cd_world.specs.World.{At, A, B, across, Note, Half, World, Unless, written_for, written_by, readied, world_did, world_does, AreTold, AllTold, bytes_told, read_for}
+use Rattle.cd_world.specs.Holds.{journal_of, IsFoundIn, Agrees}
+use Rattle.cd_world.specs.FrontsLaw.{length_over}
+use Rattle.cd_world.specs.GrownLaw.{does_node}
+
+-- Frames that await an answer.
+abbrev pub speaks : Message → ℕ
+speaks (message.Forget home n) = 0
+speaks message.Bye = 0
+speaks _ = 1
+
+abbrev pub speaking : List Message → ℕ
+speaking [] = 0
+speaking (m ∷ frames) = speaks m + speaking frames
+
+abbrev pub on_way : ℕ → World → ℕ
+on_way sid w = speaking (w.a.way sid) + speaking (w.b.way sid)
+
+abbrev pub NotTaking : Phase → Type 0
+NotTaking (Take role talk key came) = ⊥
+NotTaking _ = Unit {0}
+
+abbrev NotOpen : Status → Type 0
+NotOpen (status.Open r safe) = ⊥
+NotOpen _ = Unit {0}
+
+-- of a receiving that is open
+abbrev pub OfOpen : List Entry → Key → (Receiving → ℕ → Type 0) → Type 0
+OfOpen journal key P = (r : Receiving) (safe : ℕ) → status.status journal key ≡ status.Open r safe → P r safe
+
+module _ (x : At) (sid : ℕ) where
+  abbrev pub Silent : World → Type 0
+  Silent w = on_way sid w ≡ 0
+
+  abbrev pub Calm : World → Type 0
+  Calm w = on_way sid w ≤ 1
+
+  -- a receiving begins in the session that holds its key; a mark is within what came; and what lands came whole
+  abbrev pub GoodKeep : World → Entry → Type 0
+  GoodKeep w (entry.Receiving r) = (w.a.node.sessions.holder r.key ≡ Some sid) × NotTaking (w.a.node.sessions.phase sid) × Silent w
+  GoodKeep w (entry.Mark key offset) = offset ≤ length (w.a.received key)
+  GoodKeep w (entry.Result key o moment) = OfOpen (journal_of w.a) key (λ r safe. r.length ≤ length (w.a.received key))
+  GoodKeep w (entry.Started key kind try moment) = ⊥
+  GoodKeep w _ = Unit {0}
+
+  -- a piece is written behind the bytes before it, and is what every source that agrees has there
+  pub record Brought (w : World) (at : ℕ) (bytes : List ℕ) : Type 0 where
+    pub key : Key
+    pub r : Receiving
+    pub safe : ℕ
+    pub came : ℕ
+    pub under : key_under_way (w.a.node.sessions.phase sid) ≡ Some key
+    pub open_is : status.status (journal_of w.a) key ≡ status.Open r safe
+    pub at_is : at - r.base ≡ came
+    pub enough : came ≤ length (w.a.received key)
+    pub within : came + length bytes ≤ r.length
+    pub found : (source : List ℕ) → length source ≡ r.length → Agrees w.notes x key source → IsFoundIn bytes came source
+
+  abbrev pub GoodChange : World → FileChange → Type 0
+  GoodChange w (WriteFile name at bytes) = Brought w at bytes
+  GoodChange w _ = Unit {0}
+
+  -- Ready goes out no lower than the mark, in the session that holds the key; and Data has what every source that agrees has
+  abbrev pub SentTrue : World → Message → Type 0
+  SentTrue w (message.Ready key offset) = (w.a.node.sessions.holder key ≡ Some sid) × OfOpen (journal_of w.a) key (λ r safe. safe ≤ offset)
+  SentTrue w (message.Data key offset bytes) = (y : At) (source : List ℕ) → Agrees w.notes y key source → IsFoundIn bytes offset source
+  SentTrue w _ = Unit {0}
+
+  abbrev pub AllTrue : World → List Message → Type 0
+  AllTrue w [] = Unit {0}
+  AllTrue w (m ∷ frames) = SentTrue w m × AllTrue w frames
+
+  -- so many bytes came
+  abbrev pub TakesOn : World → List Message → Phase → Type 0
+  TakesOn w frames (Take role talk key came) = w.a.node.sessions.holder key ≡ Some sid → OfOpen (journal_of w.a) key (λ r safe. came ≤ length (readied frames w.a.received key))
+  TakesOn w frames _ = Unit {0}
+
+  pub record GoesOn (w : World) (phase : Phase) (frames : List Message) : Type 0 where
+    pub quiet : speaking frames + on_way sid w ≤ 1
+    pub sent : AllTrue w frames
+    pub takes : TakesOn w frames phase
+
+  abbrev pub AllGood : World → List Deed → Type 0
+  AllGood w [] = Unit {0}
+  AllGood w (Keep e ∷ deeds) = GoodKeep w e × AllGood (world_did x sid (Keep e) w) deeds
+  AllGood w (Touch change ∷ deeds) = Silent w × GoodChange w change × AllGood (world_did x sid (Touch change) w) deeds
+  AllGood w (AskSize name ∷ deeds) = Silent w × AllGood (world_did x sid (AskSize name) w) deeds
+  AllGood w (AskBytes name at len ∷ deeds) = Silent w × AllGood (world_did x sid (AskBytes name at len) w) deeds
+  AllGood w (Begin key phase ∷ deeds) = Silent w × NotTaking phase × AllGood (world_did x sid (Begin key phase) w) deeds
+  AllGood w (Go phase frames ∷ deeds) = GoesOn w phase frames × AllGood (world_did x sid (Go phase frames) w) deeds
+
+  -- what comes behind a part
+  abbrev ThenGood : World → Then → Type 0
+  ThenGood w Done = Unit {0}
+  ThenGood w (Onto role talk key a) =
+      Silent w × OfOpen (journal_of w.a) key (λ r safe. ⊥) × (w.a.node.sessions.holder key ≡ Some sid) × NotTaking (w.a.node.sessions.phase sid)
+  ThenGood w (Piece role talk key source offset) = Silent w × (key_under_way (w.a.node.sessions.phase sid) ≡ Some key)
+  ThenGood w _ = Silent w
+
+  record Good (w : World) (part : Part) : Type 0 where
+    fit : AllGood w part.deeds
+    then : ThenGood (world_does x sid part.deeds w) part.later
+
+  one_of : (w : World) (b : Bool) (p q : Part) → Good w p → Good w q → Good w (cond b p q)
+  one_of w true p q one other = one
+  one_of w false p q one other = other
+
+  both_good : (first second : List Deed) (w : World) → AllGood w first → AllGood (world_does x sid first w) second → AllGood w (first ++ second)
+  both_good [] second w one two = two
+  both_good (Keep e ∷ first) second w one two = (one.0, both_good first second (world_did x sid (Keep e) w) one.1 two)
+  both_good (Touch change ∷ first) second w one two = (one.0, one.1, both_good first second (world_did x sid (Touch change) w) one.2 two)
+  both_good (AskSize name ∷ first) second w one two = (one.0, both_good first second (world_did x sid (AskSize name) w) one.1 two)
+  both_good (AskBytes name at len ∷ first) second w one two = (one.0, both_good first second (world_did x sid (AskBytes name at len) w) one.1 two)
+  both_good (Begin key phase ∷ first) second w one two = (one.0, one.1, both_good first second (world_did x sid (Begin key phase) w) one.2 two)
+  both_good (Go phase frames ∷ first) second w one two = (one.0, both_good first second (world_did x sid (Go phase frames) w) one.1 two)
+
+  -- Ends of sessions.
+  gone_good : (w : World) → Calm w → AllGood w (Go Gone [] ∷ [])
+  gone_good w calm = (record { quiet = omega (arith, calm); sent = tt; takes = tt }, tt)
+
+  placed_gone_good : (w : World) (b : Bool) (n : ℕ) (placed : Placing) (now : ℕ) → Calm w → AllGood w (cond b (Keep (entry.Placed n placed now) ∷ []) [] ++ Go Gone [] ∷ [])
+  placed_gone_good w true n placed now calm = (tt, gone_good (world_did x sid (Keep (entry.Placed n placed now)) w) calm)
+  placed_gone_good w false n placed now calm = gone_good w calm
+
+  retry_good : (w : World) (now n : ℕ) (found : Option Placing) → Calm w → AllGood w (retry w.a.node.desk now n found ++ Go Gone [] ∷ [])
+  retry_good w now n None calm = gone_good w calm
+  retry_good w now n (Some placed) calm = placed_gone_good w (is_live (journal_of w.a) n && is_running now placed) n _ now calm
+
+  own_good : (w : World) (now : ℕ) (number : Option ℕ) → Calm w → AllGood w (retry_own w.a.node.desk now number ++ Go Gone [] ∷ [])
+  own_good w now None calm = gone_good w calm
+  own_good w now (Some n) calm = retry_good w now n (placing (journal_of w.a) n) calm
+
+  pub close_good : (w : World) (now : ℕ) (phase : Phase) → Calm w → AllGood w (close w.a.node.desk now phase)
+  close_good w now phase calm = own_good w now (own_number phase) calm
+
+  -- Parts.
+  module _ (now : ℕ) where
+    closed_good : (w : World) (phase : Phase) → Calm w → Good w (only (close w.a.node.desk now phase))
+    closed_good w phase calm = record { fit = close_good w now phase calm; then = tt }
+
+    calm_of : (w : World) → Silent w → Calm w
+    calm_of w silent = omega (arith, silent)
+
+    checked_good : (w : World) (phase : Phase) (part : Part) → Calm w → Good w part → Good w (checked w.a.node.desk now phase part)
+    checked_good w phase part calm good = one_of w (are_allowed w.a.node.desk.config.read now (journal_of w.a) part.deeds) part _ good (closed_good w phase calm)
+
+    settled_good : (w : World) (role : Side) (talk : Talk) (key : Key) (o : Outcomes) → Silent w → Good w (settled role talk key o)
+    settled_good w side.Snode talk key o silent = record { fit = (record { quiet = omega (arith, silent); sent = (tt, tt); takes = tt }, tt); then = tt }
+    settled_good w side.Pnode talk key o silent = record { fit = tt; then = silent }
+
+    answer_good : (w : World) (role : Side) (talk : Talk) (key : Key) (o : Outcomes) → Silent w → OfOpen (journal_of w.a) key (λ r safe. r.length ≤ length (w.a.received key)) → Good w (answer role talk key o now)
+    answer_good w role talk key o silent whole =
+        let rest : Good (world_did x sid (Keep (entry.Result key o now)) w) (settled role talk key o) = settled_good (world_did x sid (Keep (entry.Result key o now)) w) role talk key o silent in
+        record { fit = (whole, rest.fit); then = rest.then }
+
+    closed_status : (journal : List Entry) (key : Key) (s : Status) → status.status journal key ≡ s → NotOpen s → OfOpen journal key (λ r safe. ⊥)
+    closed_status journal key s is not_open r safe opens = subst NotOpen (sym is ∙ opens) not_open
+
+    refuse_good : (w : World) (role : Side) (talk : Talk) (key : Key) (why : Cause) → Silent w → OfOpen (journal_of w.a) key (λ r safe. ⊥) → Good w (answer role talk key (failed why) now)
+    refuse_good w role talk key why silent not_open = answer_good w role talk key (failed why) silent (λ r safe is. absurd (not_open r safe is))
+
+    drop_good : (w : World) (role : Side) (talk : Talk) (key : Key) (why : Cause) → Silent w → Good w (drop_back role talk key why)
+    drop_good w role talk key why silent = record { fit = (omega arith, tt); then = silent }
+
+    undo_good : (w : World) (r : Receiving) (d : Disp) → GoodChange w (undo r d)
+    undo_good w r disp.New = tt
+    undo_good w r disp.Rpl = tt
+    undo_good w r disp.Mod = elim r.there as (λ b. GoodChange w (cond b (shelves.CutFile r.name r.base) (shelves.RemoveFile r.name))) [ true ↦ tt | false ↦ tt ]
+
+    undone_good : (w : World) (phase : Phase) (role : Side) (talk : Talk) (key : Key) (why : Cause) (s : Status) → Silent w → Good w (undone w.a.node.desk now phase role talk key why s)
+    undone_good w phase role talk key why (status.Open r safe) silent =
+        let w1 : World = world_did x sid (Touch (undo r r.disp)) w in
+        let w2 : World = world_did x sid (Touch (shelves.SyncFile r.name)) w1 in
+        let w3 : World = world_did x sid (Keep (entry.Dropped key 8 why now)) w2 in
+        let rest : Good w3 (settled role talk key (failed why)) = settled_good w3 role talk key (failed why) silent in
+        record { fit = (silent, undo_good w r r.disp, (silent, tt, (tt, rest.fit))); then = rest.then }
+    undone_good w phase role talk key why s silent = closed_good w phase (calm_of w silent)
+
+    given_up_good : (w : World) (role : Side) (talk : Talk) (key : Key) (why : Cause) (s : Status) → status.status (journal_of w.a) key ≡ s → Silent w → Good w (given_up role talk key why now s)
+    given_up_good w role talk key why (status.Open r safe) is silent = drop_good w role talk key why silent
+    given_up_good w role talk key why status.Fresh is silent = refuse_good w role talk key why silent (closed_status (journal_of w.a) key status.Fresh is tt)
+    given_up_good w role talk key why (status.Started tries kind) is silent = refuse_good w role talk key why silent (closed_status (journal_of w.a) key (status.Started tries kind) is tt)
+    given_up_good w role talk key why (status.Done o) is silent = refuse_good w role talk key why silent (closed_status (journal_of w.a) key (status.Done o) is tt)
+
+    cut_length : (b : Bool) (k : ℕ) (bytes : List ℕ) → k ≤ length bytes → k ≤ length (cond b (take k bytes) bytes)
+    cut_length true k bytes enough = let len : length (take k bytes) ≡ min k (length bytes) = length-take k bytes in omega (arith, len, enough)
+    cut_length false k bytes enough = enough
+
+    resume_good : (w : World) (role : Side) (talk : Talk) (r : Receiving) (safe : ℕ) → Silent w → w.a.node.sessions.holder r.key ≡ Some sid → OfOpen (journal_of w.a) r.key (λ r2 safe2. safe2 ≤ safe) → safe ≤ length (w.a.received r.key)
+        → Good w (resume role talk r safe)
+    resume_good w role talk r safe silent holds low enough = record {
+      fit = (
+        silent,
+        tt,
+        (
+          silent,
+          tt,
+          (
+            record {
+              quiet = omega (arith, silent);
+              sent = ((holds, low), tt);
+              takes = λ holds2 r2 safe2 is. cut_length (same_key r.key r.key) safe (w.a.received r.key) enough;
+            },
+            tt,
+          ),
+        ),
+      );
+      then = tt;
+    }
+
+    opened_zero : (r r2 : Receiving) (safe : ℕ) (s : Status) → status.opened r s ≡ status.Open r2 safe → safe ≤ 0
+    opened_zero r r2 safe status.Fresh is = mark_is r r2 safe is where
+      mark_is : (a b : Receiving) (m : ℕ) → status.Open a 0 ≡ status.Open b m → m ≤ 0
+      mark_is a b m e = let same : 0 ≡ m = cc in omega (arith, same)
+    opened_zero r r2 safe (status.Started tries kind) is = let same : 0 ≡ safe = cc in omega (arith, same)
+    opened_zero r r2 safe (status.Open before m) is = let same : 0 ≡ safe = cc in omega (arith, same)
+    opened_zero r r2 safe (status.Done o) is = absurd cc
+
+    anew_good : (w : World) (role : Side) (talk : Talk) (r : Receiving) → Silent w → w.a.node.sessions.holder r.key ≡ Some sid → NotTaking (w.a.node.sessions.phase sid) → Good w (receive_anew role talk r)
+    anew_good w role talk r silent holds free =
+        let w1 : World = world_did x sid (Keep (entry.Receiving r)) w in
+        let low : OfOpen (journal_of w1.a) r.key (λ r2 safe2. safe2 ≤ 0) =
+        λ r2 safe2 is. opened_zero r r2 safe2 (status.status (journal_of w.a) r.key) (sym (status-own (entry.Receiving r) (journal_of w.a) r.key (same_key-refl r.key)) ∙ is) in
+        let rest : Good w1 (resume role talk r 0) = resume_good w1 role talk r 0 silent holds low (omega arith) in
+        record { fit = ((holds, free, silent), rest.fit); then = rest.then }
+
+    same_open : (a b : Receiving) (m n : ℕ) → status.Open a m ≡ status.Open b n → (a ≡ b) × (m ≡ n)
+    same_open a b m n e = (cc, cc)
+
+    again_good : (w : World) (phase : Phase) (role : Side) (talk : Talk) (r : Receiving) (safe : ℕ) (a : Announced) → Silent w → status.status (journal_of w.a) r.key ≡ status.Open r safe
+        → w.a.node.sessions.holder r.key ≡ Some sid → NotTaking (w.a.node.sessions.phase sid) → safe ≤ length (w.a.received r.key) → Good w (receive_again w.a.node.desk now phase role talk r safe a)
+    again_good w phase role talk r safe a silent is holds free enough =
+        one_of w (not (is_same_receiving r a)) _ _ (closed_good w phase (calm_of w silent))
+        (one_of w (eqb a.length r.length) _ _
+        (resume_good w role talk r safe silent holds (λ r2 safe2 is2. let same : safe ≡ safe2 = (same_open r r2 safe safe2 (sym is ∙ is2)).1 in omega (arith, same)) enough)
+        (one_of w (leb (r.base + a.length) greatest_file) _ _ (anew_good w role talk (record r { length = a.length }) silent holds free) (drop_good w role talk r.key cause.TooLarge silent)))
+
+    first_good : (w : World) (role : Side) (talk : Talk) (key : Key) (a : Announced) → Silent w → OfOpen (journal_of w.a) key (λ r safe. ⊥) → w.a.node.sessions.holder key ≡ Some sid → NotTaking (w.a.node.sessions.phase sid)
+        → Good w (receive_first w.a.node.desk now role talk key a)
+    first_good w role talk key a silent not_open holds free =
+        one_of w (is_in_use (journal_of w.a) key a.name) _ _ (refuse_good w role talk key cause.InUse silent not_open) (record { fit = tt; then = (silent, not_open, holds, free) })
+
+    -- what is known of the receivings
+    pub record Known (w : World) : Type 0 where
+      pub keyed : (key : Key) → OfOpen (journal_of w.a) key (λ r safe. r.key ≡ key)
+      pub marks : (key : Key) → OfOpen (journal_of w.a) key (λ r safe. safe ≤ length (w.a.received key))
+
+    from_good : (w : World) (phase : Phase) (role : Side) (talk : Talk) (key : Key) (a : Announced) (s : Status) → status.status (journal_of w.a) key ≡ s → Known w → Silent w
+        → w.a.node.sessions.holder key ≡ Some sid → NotTaking (w.a.node.sessions.phase sid) → Good w (receive_from w.a.node.desk now phase role talk key a s)
+    from_good w phase role talk key a (status.Open r safe) is known silent holds free =
+        let same : key ≡ r.key = sym (known.keyed key r safe is) in
+        again_good w phase role talk r safe a silent (subst (λ (k : Key). status.status (journal_of w.a) k ≡ status.Open r safe) same is)
+        (subst (λ (k : Key). w.a.node.sessions.holder k ≡ Some sid) same holds) free (subst (λ (k : Key). safe ≤ length (w.a.received k)) same (known.marks key r safe is))
+    from_good w phase role talk key a status.Fresh is known silent holds free = first_good w role talk key a silent (closed_status (journal_of w.a) key status.Fresh is tt) holds free
+    from_good w phase role talk key a (status.Started tries kind) is known silent holds free =
+        first_good w role talk key a silent (closed_status (journal_of w.a) key (status.Started tries kind) is tt) holds free
+    from_good w phase role talk key a (status.Done o) is known silent holds free = first_good w role talk key a silent (closed_status (journal_of w.a) key (status.Done o) is tt) holds free
+
+    target_good : (w : World) (role : Side) (talk : Talk) (key : Key) (a : Announced) (there : Option ℕ) → Silent w → OfOpen (journal_of w.a) key (λ r safe. ⊥) → w.a.node.sessions.holder key ≡ Some sid
+        → NotTaking (w.a.node.sessions.phase sid) → Good w (target_known role talk key a now there)
+    target_good w role talk key a there silent not_open holds free =
+        one_of w (is_new a.disp && is_there there) _ _ (refuse_good w role talk key cause.Exists silent not_open)
+        (one_of w (leb (kept_base a.disp there + a.length) greatest_file) _ _ (anew_good w role talk (receiving_of key a there) silent holds free) (refuse_good w role talk key cause.TooLarge silent not_open))
+
+    -- a piece is taken
+    written_length : (w : World) (name bytes : List ℕ) (at : ℕ) (b : Brought w at bytes) → b.came + length bytes ≤ length ((world_did x sid (Touch (WriteFile name at bytes)) w).a.received b.key)
+    written_length w name bytes at b =
+        let G : Key → List ℕ = w.a.received in
+        let over : List ℕ = overwritten (at - b.r.base) bytes (G b.key) in
+        let one : written_by (journal_of w.a) (key_under_way (w.a.node.sessions.phase sid)) (WriteFile name at bytes) G ≡ written_for b.key at bytes (status.status (journal_of w.a) b.key) G =
+        ap (λ (k : Option Key). written_by (journal_of w.a) k (WriteFile name at bytes) G) b.under in
+        let two : written_for b.key at bytes (status.status (journal_of w.a) b.key) G ≡ put same_key b.key over G = ap (λ (s : Status). written_for b.key at bytes s G) b.open_is in
+        let here : put same_key b.key over G b.key ≡ over = cond-true (same_key b.key b.key) over (G b.key) (same_key-refl b.key) in
+        let all : length (written_by (journal_of w.a) (key_under_way (w.a.node.sessions.phase sid)) (WriteFile name at bytes) G b.key) ≡ length over = ap (λ (g : Key → List ℕ). length (g b.key)) (one ∙ two) ∙ ap (λ (l : List ℕ). length l) here in
+        let len : length over ≡ (at - b.r.base) + (length bytes + (length (G b.key) - ((at - b.r.base) + length bytes))) = length_over (at - b.r.base) bytes (G b.key) in
+        let is_at : at - b.r.base ≡ b.came = b.at_is in
+        omega (arith, all, len, is_at)
+
+    marks_good : (w : World) (b : Bool) (role : Side) (talk : Talk) (r : Receiving) (offset : ℕ) → Silent w → offset ≤ length (w.a.received r.key)
+        → AllGood w (cond b (Touch (shelves.SyncFile r.name) ∷ Keep (entry.Mark r.key offset) ∷ []) [] ++ Go (Take role talk r.key offset) (message.Ack r.key offset ∷ []) ∷ [])
+    marks_good w true role talk r offset silent enough = (silent, tt, (enough, (record { quiet = omega (arith, silent); sent = (tt, tt); takes = λ holds r2 safe is. enough }, tt)))
+    marks_good w false role talk r offset silent enough = (record { quiet = omega (arith, silent); sent = (tt, tt); takes = λ holds r2 safe is. enough }, tt)
+
+    take_good : (w : World) (role : Side) (talk : Talk) (r : Receiving) (came : ℕ) (bytes : List ℕ) → Silent w → (b : Brought w (r.base + came) bytes) → b.key ≡ r.key → b.came ≡ came
+        → Good w (take_piece role talk r came bytes)
+    take_good w role talk r came bytes silent b key_is came_is =
+        let w1 : World = world_did x sid (Touch (WriteFile r.name (r.base + came) bytes)) w in
+        let enough : b.came + length bytes ≤ length (w1.a.received b.key) = written_length w r.name bytes (r.base + came) b in
+        let there : came + length bytes ≤ length (w1.a.received r.key) =
+        subst (λ (k : Key). came + length bytes ≤ length (w1.a.received k)) key_is (subst (λ (n : ℕ). n + length bytes ≤ length (w1.a.received b.key)) came_is enough) in
+        record { fit = (silent, b, marks_good w1 (not (eqb r.interval 0) && eqb ((came + length bytes) % r.interval) 0) role talk r (came + length bytes) silent there); then = tt }
+
+    land_good : (w : World) (role : Side) (talk : Talk) (r : Receiving) → Silent w → OfOpen (journal_of w.a) r.key (λ r2 safe. r2.length ≤ length (w.a.received r.key)) → Good w (land role talk r now)
+    land_good w role talk r silent whole =
+        let w1 : World = world_did x sid (Touch (shelves.CutFile r.name (r.base + r.length))) w in
+        let w2 : World = world_did x sid (Touch (shelves.SyncFile r.name)) w1 in
+        let rest : Good w2 (answer role talk r.key (landed_whole r) now) = answer_good w2 role talk r.key (landed_whole r) silent whole in
+        record { fit = (silent, tt, (silent, tt, rest.fit)); then = rest.then }
+
+    -- sending
+    ends_good : (w : World) (role : Side) (talk : Talk) (key : Key) (source : Source) (frames : List Message) → TakesOn w frames (after_sending role talk key source)
+    ends_good w side.Pnode talk key source frames = tt
+    ends_good w side.Snode talk key source frames = tt
+
+    send_from_good : (w : World) (role : Side) (talk : Talk) (key : Key) (source : Source) (offset : ℕ) → Silent w → key_under_way (w.a.node.sessions.phase sid) ≡ Some key → Good w (send_from role talk key source offset)
+    send_from_good w role talk key source offset silent under =
+        one_of w (eqb offset source.length) _ _
+        (record { fit = (record { quiet = omega (arith, silent); sent = (tt, tt); takes = ends_good w role talk key source (message.End key source.length ∷ []) }, tt); then = tt })
+        (record { fit = tt; then = (silent, under) })
+
+    piece_good : (w : World) (role : Side) (talk : Talk) (key : Key) (source : Source) (offset : ℕ) (bytes : List ℕ) → Silent w
+        → ((y : At) (from : List ℕ) → Agrees w.notes y key from → IsFoundIn bytes offset from) → Good w (piece_read role talk key source offset bytes)
+    piece_good w role talk key source offset bytes silent found =
+        one_of w (eqb (length bytes) (piece_len talk source offset)) _ _
+        (record { fit = (record { quiet = omega (arith, silent); sent = (found, tt); takes = tt }, tt); then = tt })
+        (record { fit = (record { quiet = omega (arith, silent); sent = (tt, tt); takes = ends_good w role talk key source (message.Abort key cause.SourceChanged ∷ []) }, tt); then = tt })
+
+    said_good : (w : World) (phase : Phase) (m : Message) → Silent w → speaks m ≡ 1 → AllTrue w (m ∷ []) → TakesOn w (m ∷ []) phase → Good w (only (Go phase (m ∷ []) ∷ []))
+    said_good w phase m silent speaks_is sent takes = record { fit = (record { quiet = omega (arith, silent, speaks_is); sent = sent; takes = takes }, tt); then = tt }
+
+    push_good : (w : World) (talk : Talk) (key : Key) (step : CopyStep) (size : Option ℕ) → Silent w → Good w (push talk key step size)
+    push_good w talk key step None silent = said_good w _ _ silent refl (tt, tt) tt
+    push_good w talk key step (Some len) silent = one_of w (leb len greatest_file) _ _ (said_good w _ _ silent refl (tt, tt) tt) (said_good w _ _ silent refl (tt, tt) tt)
+
+    push_of_good : (w : World) (phase : Phase) (talk : Talk) (key : Key) (size : Option ℕ) (s : Option What) → Silent w → Good w (push_of w.a.node.desk now phase talk key size s)
+    push_of_good w phase talk key size (Some (what.Copy step)) silent = push_good w talk key step size silent
+    push_of_good w phase talk key size s silent = closed_good w phase (calm_of w silent)
+
+    copy_good : (w : World) (talk : Talk) (key : Key) (step : CopyStep) → Silent w → Good w (copy talk key step)
+    copy_good w talk key step silent =
+        one_of w step.push _ _ (record { fit = (silent, tt, tt); then = silent })
+        (record { fit = (silent, tt, (record { quiet = omega (arith, silent); sent = (tt, tt); takes = tt }, tt)); then = tt })
+
+    begin_good : (w : World) (phase : Phase) (talk : Talk) (key : Key) (s : Option What) → Silent w → Good w (begin w.a.node.desk now phase talk key s)
+    begin_good w phase talk key None silent = record { fit = (tt, (record { quiet = omega (arith, silent); sent = (tt, (tt, tt)); takes = tt }, tt)); then = tt }
+    begin_good w phase talk key (Some (what.Copy step)) silent = copy_good w talk key step silent
+    begin_good w phase talk key s silent = closed_good w phase (calm_of w silent)
+
+    ended_good : (w : World) (talk : Talk) (key : Key) (o : Outcomes) → Silent w → Good w (ended talk key o now)
+    ended_good w talk key o silent = record { fit = (tt, tt); then = silent }
+
+    step_at_good : (w : World) (phase : Phase) (talk : Talk) (key : Key) (found : Option Outcomes) → Silent w → Good w (step_at w.a.node.desk now phase talk key found)
+    step_at_good w phase talk key (Some o) silent = ended_good w talk key o silent
+    step_at_good w phase talk key None silent = begin_good w phase talk key (what_at w.a.node.desk.config.read (journal_of w.a) key.number key.place) silent
+
+    next_step_good : (w : World) (phase : Phase) (talk : Talk) (key : Option Key) → Silent w → Good w (next_step w.a.node.desk now phase talk key)
+    next_step_good w phase talk None silent = closed_good w phase (calm_of w silent)
+    next_step_good w phase talk (Some key) silent = step_at_good w phase talk key (outcome (journal_of w.a) key) silent
+
+    next_good : (w : World) (phase : Phase) (talk : Talk) (n : ℕ) → Silent w → Good w (next w.a.node.desk now phase talk n)
+    next_good w phase talk n silent = next_step_good w phase talk (key_at n (next_place w.a.node.desk.config.read (journal_of w.a) n) (own_home (journal_of w.a))) silent
+
+    offered_good : (w : World) (talk : Talk) (key : Key) (name : List ℕ) (interval : ℕ) (size : Option ℕ) → Silent w → Good w (offered talk key name interval size)
+    offered_good w talk key name interval None silent = said_good w _ _ silent refl (tt, tt) tt
+    offered_good w talk key name interval (Some len) silent = one_of w (leb len greatest_file) _ _ (said_good w _ _ silent refl (tt, tt) tt) (said_good w _ _ silent refl (tt, tt) tt)
+
+    -- Rows.
+    run_good : (w : World) (n : ℕ) (greeting : Welcome) (placed : Option Placing) (found : Option (List ℕ × ℕ)) → Silent w → Good w (run w.a.node.desk now n greeting placed found)
+    run_good w n greeting (Some placed) (Some is) silent = one_of w (is_running now placed) _ _ (record { fit = (tt, tt); then = silent }) (closed_good w (Greet n) (calm_of w silent))
+    run_good w n greeting None found silent = closed_good w (Greet n) (calm_of w silent)
+    run_good w n greeting (Some placed) None silent = closed_good w (Greet n) (calm_of w silent)
+
+    held_good : (w : World) (n : ℕ) (placed : Option Placing) → Calm w → AllGood w (held w.a.node.desk now n placed ++ Go Gone [] ∷ [])
+    held_good w n None calm = gone_good w calm
+    held_good w n (Some placed) calm = placed_gone_good w (is_live (journal_of w.a) n) n _ now calm
+
+    rejected_good : (w : World) (n : ℕ) → Calm w → Good w (rejected w.a.node.desk now n)
+    rejected_good w n calm = record { fit = held_good w n (placing (journal_of w.a) n) calm; then = tt }
+
+    greet_good : (w : World) (n : ℕ) (m : Message) → Calm w → (speaks m ≡ 1 → Silent w) → Good w (row_greet w.a.node.desk now n m)
+    greet_good w n (message.Welcome greeting) calm quiet =
+        one_of w (is_called (submission (journal_of w.a) n) greeting.name) _ _ (run_good w n greeting (placing (journal_of w.a) n) (own_home (journal_of w.a)) (quiet refl)) (rejected_good w n calm)
+    greet_good w n (message.Reject (reject.Busy total)) calm quiet = closed_good w (Greet n) calm
+    greet_good w n (message.Reject why) calm quiet = rejected_good w n calm
+    greet_good w n m calm quiet = closed_good w (Greet n) calm
+
+    ready_good : (w : World) (phase : Phase) (role : Side) (talk : Talk) (key : Key) (source : Option Source) (offset : ℕ) → Silent w → key_under_way (w.a.node.sessions.phase sid) ≡ Some key
+        → Good w (ready_from w.a.node.desk now phase role talk key source offset)
+    ready_good w phase role talk key None offset silent under = closed_good w phase (calm_of w silent)
+    ready_good w phase role talk key (Some source) offset silent under =
+        one_of w (leb offset source.length) _ _ (send_from_good w role talk key source offset silent under) (closed_good w phase (calm_of w silent))
+
+    await_good : (w : World) (phase : Phase) (talk : Talk) (key : Key) (source : Option Source) (m : Message) → Calm w → (speaks m ≡ 1 → Silent w) → key_under_way (w.a.node.sessions.phase sid) ≡ Some key
+        → Good w (row_await w.a.node.desk now phase talk key source m)
+    await_good w phase talk key source (message.Ready step offset) calm quiet under =
+        one_of w (same_key step key) _ _ (ready_good w phase side.Pnode talk key source offset (quiet refl) under) (closed_good w phase calm)
+    await_good w phase talk key source (message.Result step o) calm quiet under = one_of w (same_key step key) _ _ (ended_good w talk key o (quiet refl)) (closed_good w phase calm)
+    await_good w phase talk key source m calm quiet under = closed_good w phase calm
+
+    receive_good : (w : World) (phase : Phase) (role : Side) (talk : Talk) (key : Key) (a : Announced) → Known w → Silent w → w.a.node.sessions.holder key ≡ Some sid → NotTaking (w.a.node.sessions.phase sid)
+        → Good w (receive w.a.node.desk now phase role talk key a)
+    receive_good w phase role talk key a known silent holds free = from_good w phase role talk key a (status.status (journal_of w.a) key) refl known silent holds free
+
+    announced_good : (w : World) (phase : Phase) (talk : Talk) (key : Key) (a : Option Announced) → Known w → Silent w → w.a.node.sessions.holder key ≡ Some sid → NotTaking (w.a.node.sessions.phase sid)
+        → Good w (receive_announced w.a.node.desk now phase talk key a)
+    announced_good w phase talk key None known silent holds free = closed_good w phase (calm_of w silent)
+    announced_good w phase talk key (Some a) known silent holds free = receive_good w phase side.Pnode talk key a known silent holds free
+
+    ask_good : (w : World) (phase : Phase) (talk : Talk) (key : Key) (m : Message) → Known w → Calm w → (speaks m ≡ 1 → Silent w) → w.a.node.sessions.holder key ≡ Some sid → NotTaking (w.a.node.sessions.phase sid)
+        → Good w (row_ask w.a.node.desk now phase talk key m)
+    ask_good w phase talk key (message.Length step len) known calm quiet holds free =
+        one_of w (same_key step key) _ _
+        (announced_good w phase talk key (announced_by (what_at w.a.node.desk.config.read (journal_of w.a) key.number key.place) len) known (quiet refl) holds free) (closed_good w phase calm)
+    ask_good w phase talk key (message.Abort step why) known calm quiet holds free =
+        one_of w (same_key step key && gives_up why) _ _ (given_up_good w side.Pnode talk key why (status.status (journal_of w.a) key) refl (quiet refl)) (closed_good w phase calm)
+    ask_good w phase talk key m known calm quiet holds free = closed_good w phase calm
+
+    send_good : (w : World) (phase : Phase) (role : Side) (talk : Talk) (key : Key) (source : Source) (awaited : ℕ) (m : Message) → Calm w → (speaks m ≡ 1 → Silent w) → key_under_way (w.a.node.sessions.phase sid) ≡ Some key
+        → Good w (row_send w.a.node.desk now phase role talk key source awaited m)
+    send_good w phase role talk key source awaited (message.Ack step offset) calm quiet under =
+        one_of w (same_key step key && eqb offset awaited) _ _ (send_from_good w role talk key source offset (quiet refl) under) (closed_good w phase calm)
+    send_good w phase role talk key source awaited m calm quiet under = closed_good w phase calm
+
+    -- Data that came has what every source that agrees has
+    abbrev pub HeardTrue : World → Message → Type 0
+    HeardTrue w (message.Data key offset bytes) = w.a.node.sessions.holder key ≡ Some sid → (source : List ℕ) → Agrees w.notes x key source → IsFoundIn bytes offset source
+    HeardTrue w _ = Unit {0}
+
+    data_good : (w : World) (phase : Phase) (role : Side) (talk : Talk) (r : Receiving) (safe came : ℕ) (step : Key) (offset : ℕ) (bytes : List ℕ) → Calm w → Silent w
+        → key_under_way (w.a.node.sessions.phase sid) ≡ Some r.key → status.status (journal_of w.a) r.key ≡ status.Open r safe → w.a.node.sessions.holder r.key ≡ Some sid → came ≤ length (w.a.received r.key)
+        → HeardTrue w (message.Data step offset bytes)
+        → Good w (cond (same_key step r.key && is_piece_at talk r came offset (length bytes)) (take_piece role talk r came bytes) (only (close w.a.node.desk now phase)))
+    data_good w phase role talk r safe came step offset bytes calm silent under opens holds enough heard =
+        elim (cases_Bool (same_key step r.key && is_piece_at talk r came offset (length bytes))) [
+          | inl fits ↦
+              let parts = and_parts (same_key step r.key) (is_piece_at talk r came offset (length bytes)) fits in
+              let same : step ≡ r.key = same_key-true step r.key parts.0 in
+              let four = and_parts (eqb offset came && leb 1 (length bytes) && leb (length bytes) talk.block && leb (came + length bytes) r.length) (eqb r.interval 0 || leb (came % r.interval + length bytes) r.interval) parts.1 in
+              let three = and_parts (eqb offset came && leb 1 (length bytes) && leb (length bytes) talk.block) (leb (came + length bytes) r.length) four.0 in
+              let two = and_parts (eqb offset came && leb 1 (length bytes)) (leb (length bytes) talk.block) three.0 in
+              let one = and_parts (eqb offset came) (leb 1 (length bytes)) two.0 in
+              let place : offset ≡ came = eqb-true offset came one.0 in
+              let brought : Brought w (r.base + came) bytes = record {
+                key = r.key;
+                r = r;
+                safe = safe;
+                came = came;
+                under = under;
+                open_is = opens;
+                at_is = omega arith;
+                enough = enough;
+                within = leb-true (came + length bytes) r.length three.1;
+                found = λ source len agrees.
+                    subst (λ (n : ℕ). IsFoundIn bytes n source) place
+                    (heard (subst (λ (k : Key). w.a.node.sessions.holder k ≡ Some sid) (sym same) holds) source (subst (λ (k : Key). Agrees w.notes x k source) (sym same) agrees));
+              } in
+              subst (Good w) (sym (cond-true (same_key step r.key && is_piece_at talk r came offset (length bytes)) (take_piece role talk r came bytes) (only (close w.a.node.desk now phase)) fits))
+              (take_good w role talk r came bytes silent brought refl refl)
+          | inr not_fits ↦
+              subst (Good w) (sym (cond-false (same_key step r.key && is_piece_at talk r came offset (length bytes)) (take_piece role talk r came bytes) (only (close w.a.node.desk now phase)) not_fits))
+              (closed_good w phase calm)
+        ]
+
+    end_good : (w : World) (phase : Phase) (role : Side) (talk : Talk) (r : Receiving) (safe came : ℕ) (step : Key) (len : ℕ) → Calm w → Silent w → status.status (journal_of w.a) r.key ≡ status.Open r safe
+        → came ≤ length (w.a.received r.key)
+        → Good w (cond (same_key step r.key && eqb len r.length && eqb came r.length) (land role talk r now) (only (close w.a.node.desk now phase)))
+    end_good w phase role talk r safe came step len calm silent opens enough =
+        elim (cases_Bool (same_key step r.key && eqb len r.length && eqb came r.length)) [
+          | inl fits ↦
+              let whole : came ≡ r.length = eqb-true came r.length (and_parts (same_key step r.key && eqb len r.length) (eqb came r.length) fits).1 in
+              subst (Good w) (sym (cond-true (same_key step r.key && eqb len r.length && eqb came r.length) (land role talk r now) (only (close w.a.node.desk now phase)) fits))
+              (land_good w role talk r silent
+              (λ r2 safe2 is.
+              let same : r ≡ r2 = (same_open r r2 safe safe2 (sym opens ∙ is)).0 in
+              let equal : r.length ≡ r2.length = ap (λ (y : Receiving). y.length) same in
+              omega (arith, whole, equal, enough)))
+          | inr not_fits ↦
+              subst (Good w) (sym (cond-false (same_key step r.key && eqb len r.length && eqb came r.length) (land role talk r now) (only (close w.a.node.desk now phase)) not_fits)) (closed_good w phase calm)
+        ]
+
+    take_of_good : (w : World) (phase : Phase) (role : Side) (talk : Talk) (r : Receiving) (safe came : ℕ) (m : Message) → Calm w → (speaks m ≡ 1 → Silent w)
+        → key_under_way (w.a.node.sessions.phase sid) ≡ Some r.key → status.status (journal_of w.a) r.key ≡ status.Open r safe → w.a.node.sessions.holder r.key ≡ Some sid → came ≤ length (w.a.received r.key)
+        → HeardTrue w m → Good w (row_take_of w.a.node.desk now phase role talk r came m)
+    take_of_good w phase role talk r safe came (message.Data step offset bytes) calm quiet under opens holds enough heard =
+        data_good w phase role talk r safe came step offset bytes calm (quiet refl) under opens holds enough heard
+    take_of_good w phase role talk r safe came (message.End step len) calm quiet under opens holds enough heard = end_good w phase role talk r safe came step len calm (quiet refl) opens enough
+    take_of_good w phase role talk r safe came (message.Abort step why) calm quiet under opens holds enough heard =
+        one_of w (same_key step r.key && gives_up why) _ _ (drop_good w role talk r.key why (quiet refl)) (closed_good w phase calm)
+    take_of_good w phase role talk r safe came m calm quiet under opens holds enough heard = closed_good w phase calm
+
+    take_row_good : (w : World) (phase : Phase) (role : Side) (talk : Talk) (key : Key) (came : ℕ) (m : Message) (s : Status) → status.status (journal_of w.a) key ≡ s → Known w → Calm w → (speaks m ≡ 1 → Silent w)
+        → key_under_way (w.a.node.sessions.phase sid) ≡ Some key → w.a.node.sessions.holder key ≡ Some sid → OfOpen (journal_of w.a) key (λ r safe. came ≤ length (w.a.received key))
+        → HeardTrue w m → Good w (row_take w.a.node.desk now phase role talk came m s)
+    take_row_good w phase role talk key came m (status.Open r safe) is known calm quiet under holds enough heard =
+        let same : key ≡ r.key = sym (known.keyed key r safe is) in
+        take_of_good w phase role talk r safe came m calm quiet (under ∙ ap (λ (k : Key). Some k) same)
+        (subst (λ (k : Key). status.status (journal_of w.a) k ≡ status.Open r safe) same is) (subst (λ (k : Key). w.a.node.sessions.holder k ≡ Some sid) same holds)
+        (subst (λ (k : Key). came ≤ length (w.a.received k)) same (enough r safe is)) heard
+    take_row_good w phase role talk key came m s is known calm quiet under holds enough heard = closed_good w phase calm
+
+    welcome_good : (w : World) (found : Option (List ℕ × ℕ)) (block : ℕ) (h : Hello) → Silent w → Good w (welcome found block h)
+    welcome_good w None block h silent = record { fit = gone_good w (calm_of w silent); then = tt }
+    welcome_good w (Some is) block h silent = said_good w _ _ silent refl (tt, tt) tt
+
+    fresh_good : (w : World) (m : Message) → Calm w → (speaks m ≡ 1 → Silent w) → Good w (row_fresh w.a.node.desk now m)
+    fresh_good w (message.Hello h) calm quiet = welcome_good w (own_home (journal_of w.a)) w.a.node.desk.config.block h (quiet refl)
+    fresh_good w m calm quiet = closed_good w Fresh calm
+
+    unless_done_good : (w : World) (talk : Talk) (key : Key) (found : Option Outcomes) (part : Part) → Silent w → Good w part → Good w (unless_done w.a.node.desk now talk key found part)
+    unless_done_good w talk key None part silent good = checked_good w (Ready talk (Some key)) part (calm_of w silent) good
+    unless_done_good w talk key (Some o) part silent good = said_good w (Ready talk (Some key)) (message.Result key o) silent refl (tt, tt) tt
+
+    -- where a step was begun
+    abbrev begun : World → Talk → Key → World
+    begun w talk key = world_did x sid (Begin key (Ready (with_number key.number talk) (Some key))) w
+
+    holds_here : (w : World) (talk : Talk) (key : Key) → (begun w talk key).a.node.sessions.holder key ≡ Some sid
+    holds_here w talk key = cond-true (same_key key key) (Some sid) (w.a.node.sessions.holder key) (same_key-refl key)
+
+    free_here : (w : World) (talk : Talk) (key : Key) → NotTaking ((begun w talk key).a.node.sessions.phase sid)
+    free_here w talk key = subst NotTaking (sym (cond-true (eqb sid sid) (Ready (with_number key.number talk) (Some key)) (w.a.node.sessions.phase sid) (eq-eqb sid sid refl))) tt
+
+    known_here : (w : World) (talk : Talk) (key : Key) → Known w → Known (begun w talk key)
+    known_here w talk key known = record { keyed = known.keyed; marks = known.marks }
+
+    step_good : (w : World) (phase : Phase) (talk : Talk) (key : Key) (part : Part) → Silent w → Good (begun w talk key) part → Good w (take_step w.a.node.desk w.a.node.sessions now sid phase talk key part)
+    step_good w phase talk key part silent good =
+        let rest : Good (begun w talk key) (unless_done w.a.node.desk now (with_number key.number talk) key (outcome (journal_of w.a) key) part) =
+        unless_done_good (begun w talk key) (with_number key.number talk) key (outcome (journal_of w.a) key) part silent good in
+        one_of w (is_of_talk talk key && not (is_over (journal_of w.a) key) && not (is_newer w.a.node.sessions sid key (w.a.node.sessions.holder key))) _ _
+        (record { fit = (silent, tt, rest.fit); then = rest.then }) (closed_good w phase (calm_of w silent))
+
+    forget_good : (w : World) (talk : Talk) (last : Option Key) (n : ℕ) → Calm w → Good w (forget w.a.node.desk talk last n)
+    forget_good w talk last n calm = record { fit = by_known (is_forgotten (journal_of w.a) talk.pnode talk.home n); then = then_by (is_forgotten (journal_of w.a) talk.pnode talk.home n) } where
+      by_known : (b : Bool) → AllGood w (cond b [] (Keep (entry.Forgot talk.pnode talk.home n) ∷ []) ++ Go (Ready (with_number n talk) last) [] ∷ [])
+      by_known true = (record { quiet = omega (arith, calm); sent = tt; takes = tt }, tt)
+      by_known false = (tt, (record { quiet = omega (arith, calm); sent = tt; takes = tt }, tt))
+
+      then_by : (b : Bool) → Unit {0}
+      then_by b = tt
+
+    ready_row_good : (w : World) (phase : Phase) (talk : Talk) (last : Option Key) (m : Message) → Known w → Calm w → (speaks m ≡ 1 → Silent w) → Good w (row_ready w.a.node.desk w.a.node.sessions now sid phase talk last m)
+    ready_row_good w phase talk last (message.StepCopyTo key name disp interval len) known calm quiet =
+        let anew : Talk = with_number key.number talk in
+        step_good w phase talk key _ (quiet refl)
+        (receive_good (begun w talk key) (Ready anew (Some key)) side.Snode anew key (record { name = name; disp = disp; interval = interval; length = len }) (known_here w talk key known) (quiet refl) (holds_here w talk key) (free_here w talk key))
+    ready_row_good w phase talk last (message.StepCopyFrom key name interval) known calm quiet = step_good w phase talk key _ (quiet refl) (record { fit = tt; then = quiet refl })
+    ready_row_good w phase talk last (message.Abort key why) known calm quiet =
+        one_of w (is_in_place why) _ _
+        (step_good w phase talk key _ (quiet refl) (given_up_good (begun w talk key) side.Snode (with_number key.number talk) key why (status.status (journal_of w.a) key) refl (quiet refl))) (closed_good w phase calm)
+    ready_row_good w phase talk last (message.Forget identity n) known calm quiet =
+        one_of w (eqb identity talk.home && is_number_of talk.number n && not (is_receiving_for (journal_of w.a) talk.pnode identity n)) _ _ (forget_good w talk last n calm) (closed_good w phase calm)
+    ready_row_good w phase talk last message.Bye known calm quiet = record { fit = gone_good w calm; then = tt }
+    ready_row_good w phase talk last m known calm quiet = closed_good w phase calm
+
+    offer_good : (w : World) (phase : Phase) (talk : Talk) (key : Key) (source : Source) (m : Message) → Known w → Calm w → (speaks m ≡ 1 → Silent w) → key_under_way (w.a.node.sessions.phase sid) ≡ Some key
+        → Good w (row_offer w.a.node.desk w.a.node.sessions now sid phase talk key source m)
+    offer_good w phase talk key source (message.Ready step offset) known calm quiet under =
+        one_of w (same_key step key) _ _ (ready_good w phase side.Snode talk key (Some source) offset (quiet refl) under) (closed_good w phase calm)
+    offer_good w phase talk key source m known calm quiet under = ready_row_good w phase talk (Some key) m known calm quiet
+
+    -- so many bytes came in the session that holds the key
+    abbrev pub Took : World → Phase → Type 0
+    Took w (Take role talk key came) = w.a.node.sessions.holder key ≡ Some sid → OfOpen (journal_of w.a) key (λ r safe. came ≤ length (w.a.received key))
+    Took w _ = Unit {0}
+
+    part_in_good : (w : World) (m : Message) (phase : Phase) → w.a.node.sessions.phase sid ≡ phase → Known w → Calm w → (speaks m ≡ 1 → Silent w)
+        → ((key : Key) → key_under_way phase ≡ Some key → w.a.node.sessions.holder key ≡ Some sid) → Took w phase → HeardTrue w m
+        → Good w (part_in w.a.node.desk w.a.node.sessions now sid m phase)
+    part_in_good w m Gone is known calm quiet attached took heard = record { fit = gone_good w calm; then = tt }
+    part_in_good w m (Greet n) is known calm quiet attached took heard = greet_good w n m calm quiet
+    part_in_good w m (Await talk key source) is known calm quiet attached took heard = await_good w (Await talk key source) talk key source m calm quiet (ap key_under_way is)
+    part_in_good w m (Ask talk key) is known calm quiet attached took heard = ask_good w (Ask talk key) talk key m known calm quiet (attached key refl) (subst NotTaking (sym is) tt)
+    part_in_good w m Fresh is known calm quiet attached took heard = fresh_good w m calm quiet
+    part_in_good w m (Ready talk last) is known calm quiet attached took heard = ready_row_good w (Ready talk last) talk last m known calm quiet
+    part_in_good w m (Offer talk key source) is known calm quiet attached took heard = offer_good w (Offer talk key source) talk key source m known calm quiet (ap key_under_way is)
+    part_in_good w m (Send role talk key source awaited) is known calm quiet attached took heard = send_good w (Send role talk key source awaited) role talk key source awaited m calm quiet (ap key_under_way is)
+    part_in_good w m (Take role talk key came) is known calm quiet attached took heard =
+        take_row_good w (Take role talk key came) role talk key came m (status.status (journal_of w.a) key) refl known calm quiet (ap key_under_way is) (attached key refl) (took (attached key refl)) heard
+
+    attached_of : (sessions : Sessions) (key : Key) (found : Option ℕ) → sessions.holder key ≡ found → not (is_sid sid found) ≡ false → sessions.holder key ≡ Some sid
+    attached_of sessions key None is apart = absurd (false≢true (sym apart))
+    attached_of sessions key (Some holder) is apart =
+        elim (cases_Bool (eqb sid holder)) [
+          | inl same ↦ is ∙ ap (λ (n : ℕ). Some n) (sym (eqb-true sid holder same))
+          | inr other ↦ absurd (false≢true (sym apart ∙ ap not other))
+        ]
+
+    attached_by : (sessions : Sessions) (under : Option Key) → is_detached sessions sid under ≡ false → (key : Key) → under ≡ Some key → sessions.holder key ≡ Some sid
+    attached_by sessions None apart key is = absurd cc
+    attached_by sessions (Some under) apart key is =
+        let same : under ≡ key = cc in
+        subst (λ (k : Key). sessions.holder k ≡ Some sid) same (attached_of sessions under (sessions.holder under) refl apart)
+
+    first_part_good : (w : World) (m : Message) → Known w → Calm w → (speaks m ≡ 1 → Silent w) → Took w (w.a.node.sessions.phase sid) → HeardTrue w m
+        → Good w (first_part w.a.node.desk w.a.node.sessions now sid m)
+    first_part_good w m known calm quiet took heard =
+        let phase : Phase = w.a.node.sessions.phase sid in
+        let dead : Bool = is_dead w.a.node.desk (own_number phase) in
+        let apart : Bool = is_detached w.a.node.sessions sid (key_under_way phase) in
+        let row_part : Part = checked w.a.node.desk now phase (part_in w.a.node.desk w.a.node.sessions now sid m phase) in
+        elim (cases_Bool (dead || apart)) [
+          | inl over ↦ subst (Good w) (sym (cond-true (dead || apart) (only (close w.a.node.desk now phase)) row_part over)) (closed_good w phase calm)
+          | inr goes ↦
+              let attached = attached_by w.a.node.sessions (key_under_way phase) (or_parts dead apart goes).1 in
+              subst (Good w) (sym (cond-false (dead || apart) (only (close w.a.node.desk now phase)) row_part goes))
+              (checked_good w phase (part_in w.a.node.desk w.a.node.sessions now sid m phase) calm (part_in_good w m phase refl known calm quiet attached took heard))
+        ]
+
+  -- All parts.
+
+  abbrev following : ℕ → Answers → Node → Then → Part
+  following now answers node later = checked node.desk now (node.sessions.phase sid) (part_behind node.desk now (node.sessions.phase sid) answers later)
+
+  read_noted : (y : At) (key : Key) (at : ℕ) (bytes : List ℕ) (notes : List Note) (under : Option Key) (source : List ℕ) → under ≡ Some key → Agrees (read_for x under at bytes notes) y key source → IsFoundIn bytes at source
+  read_noted y key at bytes notes None source is agrees = absurd cc
+  read_noted y key at bytes notes (Some step) source is agrees =
+      let same : step ≡ key = cc in
+      agrees.0 (subst (λ (k : Key). same_key step k ≡ true) same (same_key-refl step))
+
+  step_behind : (now more : ℕ) (w : World) (answers : Answers) (later : Then) → now ≡ answers.now
+      → ((v : World) (part : Part) → Good v part → AllTold more v.a.node sid answers part → AllGood v (all_parts more v.a.node sid answers part))
+      → ThenGood w later → AreTold w.a.node later answers → Unless (is_done later) (AllTold more w.a.node sid answers (following now answers w.a.node later))
+      → AllGood w (cond (is_done later) [] (asked w.a.node.desk later ++ all_parts more w.a.node sid answers (following now answers w.a.node later)))
+  step_behind now more w answers Done at rest good told told_more = tt
+  step_behind now more w answers (Next talk n) at rest good told told_more =
+      rest w (following now answers w.a.node (Next talk n)) (checked_good now w (w.a.node.sessions.phase sid) _ (calm_of now w good) (next_good now w (w.a.node.sessions.phase sid) talk n good)) told_more
+  step_behind now more w answers (Undo role talk key why) at rest good told told_more =
+      rest w (following now answers w.a.node (Undo role talk key why))
+      (checked_good now w (w.a.node.sessions.phase sid) _ (calm_of now w good) (undone_good now w (w.a.node.sessions.phase sid) role talk key why (status.status (journal_of w.a) key) good)) told_more
+  step_behind now more w answers (Push talk key) at rest good told told_more =
+      let name : List ℕ = source_in (what_at w.a.node.desk.config.read (journal_of w.a) key.number key.place) in
+      let w2 : World = world_did x sid (AskSize name) w in (
+        good,
+        rest w2 (following now answers w.a.node (Push talk key))
+            (checked_good now w2 (w.a.node.sessions.phase sid) _ (calm_of now w2 good) (push_of_good now w2 (w.a.node.sessions.phase sid) talk key answers.source _ good)) told_more,
+      )
+  step_behind now more w answers (Offered talk key name interval) at rest good told told_more =
+      let w2 : World = world_did x sid (AskSize name) w in (
+        good,
+        rest w2 (following now answers w.a.node (Offered talk key name interval))
+            (checked_good now w2 (w.a.node.sessions.phase sid) _ (calm_of now w2 good) (offered_good now w2 talk key name interval answers.source good)) told_more,
+      )
+  step_behind now more w answers (Onto role talk key a) at rest good told told_more =
+      let w2 : World = world_did x sid (AskSize a.name) w in (
+        good.0,
+        rest w2 (following now answers w.a.node (Onto role talk key a))
+            (checked_good now w2 (w.a.node.sessions.phase sid) _ (calm_of now w2 good.0) (target_good now w2 role talk key a answers.there good.0 good.1 good.2 good.3)) told_more,
+      )
+  step_behind now more w answers (Piece role talk key source offset) at rest good told told_more =
+      let len : ℕ = piece_len talk source offset in
+      let w2 : World = world_did x sid (AskBytes source.name offset len) w in (
+        good.0,
+        rest w2 (following now answers w.a.node (Piece role talk key source offset))
+            (checked_good now w2 (w.a.node.sessions.phase sid) _ (calm_of now w2 good.0)
+            (piece_good now w2 role talk key source offset answers.bytes good.0
+            (λ y from agrees. subst (λ (bytes : List ℕ). IsFoundIn bytes offset from) (sym told)
+            (read_noted y key offset (bytes_told w.a source.name offset len) w.notes (key_under_way (w.a.node.sessions.phase sid)) from good.1 agrees)))) told_more,
+      )
+
+  all_parts_good : (more : ℕ) (w : World) (answers : Answers) (part : Part) → Good w part → AllTold more w.a.node sid answers part → AllGood w (all_parts more w.a.node sid answers part)
+  unfolding all_parts AllTold
+  all_parts_good zero w answers part good told = good.fit
+  all_parts_good (suc more) w answers part good told =
+      let w1 : World = world_does x sid part.deeds w in
+      let same : w1.a.node ≡ does sid part.deeds w.a.node = does_node x sid part.deeds w in
+      let told_here = subst (λ (node : Node). AreTold node part.later answers) (sym same) told.0 in
+      let told_more = subst (λ (node : Node). Unless (is_done part.later) (AllTold more node sid answers (following answers.now answers node part.later))) (sym same) told.1 in
+      let rest = step_behind answers.now more w1 answers part.later refl (λ v p good2 told2. all_parts_good more v answers p good2 told2) good.then told_here told_more in
+      both_good part.deeds _ w good.fit
+      (subst (λ (node : Node). AllGood w1 (cond (is_done part.later) [] (asked node.desk part.later ++ all_parts more node sid answers (following answers.now answers node part.later)))) same rest)
+
+  -- the row of a frame
+  pub row_good : (w : World) (answers : Answers) (m : Message) → Known answers.now w → Calm w → (speaks m ≡ 1 → Silent w) → Took answers.now w (w.a.node.sessions.phase sid) → HeardTrue answers.now w m
+      → AllTold most_parts w.a.node sid answers (first_part w.a.node.desk w.a.node.sessions answers.now sid m) → AllGood w (row w.a.node sid answers m)
+  row_good w answers m known calm quiet took heard told =
+      all_parts_good most_parts w answers (first_part w.a.node.desk w.a.node.sessions answers.now sid m) (first_part_good answers.now w m known calm quiet took heard) told
+
+  -- a choice, in a session in which nobody spoke
+  hello_speaks : (known : Option (List ℕ × ℕ)) (block : ℕ) → speaking (hello known block) ≤ 1
+  hello_speaks None block = omega arith
+  hello_speaks (Some is) block = omega arith
+
+  hello_true : (w : World) (known : Option (List ℕ × ℕ)) (block : ℕ) → AllTrue w (hello known block)
+  hello_true w None block = tt
+  hello_true w (Some is) block = (tt, tt)
+
+  connect_good : (w : World) (desk : Desk) (now : ℕ) (chosen : Row) (waits : Waits) (connected : Bool) → Silent w → AllGood w (connect desk now chosen waits connected)
+  connect_good w desk now chosen waits true silent =
+      let few : speaking (hello (own_home desk.journal) desk.config.block) ≤ 1 = hello_speaks (own_home desk.journal) desk.config.block in
+      (record { quiet = omega (arith, silent, few); sent = hello_true w (own_home desk.journal) desk.config.block; takes = tt }, tt)
+  connect_good w desk now chosen waits false silent = (tt, tt)
+
+  call_good : (w : World) (desk : Desk) (now : ℕ) (connected : Bool) (chosen : Row) (waits : Option Waits) → Silent w → AllGood w (call desk now connected chosen waits)
+  call_good w desk now connected chosen None silent = (tt, tt)
+  call_good w desk now connected chosen (Some waits) silent = connect_good w desk now chosen waits connected silent
+
+  chosen_good : (w : World) (desk : Desk) (now : ℕ) (connected : Bool) (chosen : Option Row) → Silent w → AllGood w (row_chosen desk now connected chosen)
+  chosen_good w desk now connected None silent = tt
+  chosen_good w desk now connected (Some chosen) silent = call_good w desk now connected chosen (desk.config.partner chosen.snode) silent
+
+  pub choose_good : (w : World) (node : Node) (now : ℕ) (connected : Bool) → Silent w → AllGood w (row_choose node now connected)
+  choose_good w node now connected silent = chosen_good w node.desk now connected (next_due node.desk.journal now (busy node.sessions)) silent
+
+  -- a fault, where nobody spoke yet
+  pub told_abort : (key : Option Key) → (speaking (trouble_for key) ≤ 1) × ((w : World) → AllTrue w (trouble_for key)) × ((g : Key → List ℕ) → readied (trouble_for key) g ≡ g)
+  told_abort None = (omega arith, λ w. tt, λ g. refl)
+  told_abort (Some key) = by_place (ltb key.place 1024) where
+    by_place : (b : Bool) → (speaking (cond b (message.Abort key cause.Trouble ∷ []) []) ≤ 1) × ((w : World) → AllTrue w (cond b (message.Abort key cause.Trouble ∷ []) []))
+        × ((g : Key → List ℕ) → readied (cond b (message.Abort key cause.Trouble ∷ []) []) g ≡ g)
+    by_place true = (omega arith, λ w. (tt, tt), λ g. refl)
+    by_place false = (omega arith, λ w. tt, λ g. refl)
+
+  pub still_takes : (w : World) (frames : List Message) (phase : Phase) (now : ℕ) → ((g : Key → List ℕ) → readied frames g ≡ g) → Took now w phase → TakesOn w frames phase
+  still_takes w frames (Take role talk key came) now same took = λ holds r safe is. subst (λ (g : Key → List ℕ). came ≤ length (g key)) (sym (same w.a.received)) (took holds r safe is)
+  still_takes w frames phase now same took = tt

@@ -1,0 +1,362 @@
+-- After every list of events what landed is the source, whole.
+use Rattle.std.proofs.Common.{◌≡◌, ℕ, zero, suc, ◌+◌, ◌≤◌, Bool, true, false, cond, ◌&&◌, eqb, ltb, List, [], ◌∷◌, ◌++◌, length, take, drop, Option, Some, None, inl, inr, refl, sym, ◌∙◌, ap, subst, min, arith, length-take}
+use Rattle.std.proofs.lemmas.List.{append-nil, take-append-drop}
+use Rattle.std.proofs.lemmas.Bool.{cases_Bool, and_parts, cond-true, cond-false, false≢true, eqb-true, eq-eqb}
+use Rattle.cd_outside.specs.Shelf as shelves
+use Rattle.cd_types.specs.declared.card.Filed.{Filed}
+use Rattle.cd_types.specs.declared.key.Key.{Key}
+use Rattle.cd_types.specs.declared.rows.Receiving.{Receiving}
+use Rattle.cd_types.specs.declared.rows.Row.{Row}
+use Rattle.cd_entries.specs.declared.entry.Entry.{Entry}
+use Rattle.cd_entries.specs.declared.entry.Entry.TheVariants as entry
+use Rattle.cd_frames.specs.Message as message
+use Rattle.cd_frames.specs.Message.{Message}
+use Rattle.cd_status.specs.Queue.{Waits, next_due}
+use Rattle.cd_status.specs.Status as status
+use Rattle.cd_status.specs.Status.{Status, mark}
+use Rattle.cd_status.specs.StatusLaw.{status_says}
+use Rattle.cd_legal.specs.Legal.{allowed, is_legal}
+use Rattle.cd_legal.specs.OpeningsLaw as openings
+use Rattle.cd_legal.specs.Steps.{Reading}
+use Rattle.cd_moves.specs.declared.session.Phase.{Phase}
+use Rattle.cd_moves.specs.declared.session.Phase.TheVariants.{Gone, Greet, Await, Ask, Fresh, Ready, Offer, Send, Take}
+use Rattle.cd_moves.specs.Closing.{key_under_way, trouble_for, close, trouble}
+use Rattle.cd_moves.specs.Node.{Config, Desk, Sessions, Node, Deed, Keep, Touch, AskSize, AskBytes, Begin, Go, Answers, did, does, recorded}
+use Rattle.cd_moves.specs.Rows.{most_parts, first_part, row, row_accept, row_choose, row_end, row_trouble, row_chosen, call, connect, busy}
+use Rattle.cd_moves.specs.RowsLaw.{same_config}
+use Rattle.cd_world.specs.World.{At, A, B, across, Note, Half, World, seen_from, readied, is_gone, at_session, world_did, world_does, Happening, Choice, Call, Frame, End, Task, nothing, opens, with_session, called, answers_now, came, ended, task_of, task, AllTold, ToldFor, Told, world_after, world_within, deeds_left, Cut, Unchanged, Begun, cut_off, IsCutOff, with_shelf, world_faulted, down, world_stopped, no_sessions, marked, world_started, world_lost, world_written, submission_of, world_submitted, Event, Does, Fails, Stops, Starts, Loses, Writes, Later, Submits, later, happens, IsPossible, after, ArePossible, IsNew, IsFirst}
+use Rattle.cd_world.specs.Holds.{journal_of, Agrees, AreSources}
+use Rattle.cd_world.specs.FrontsLaw.{IsFront, front_take}
+use Rattle.cd_world.specs.GrownLaw.{does_node, BothGrown, BothSound, within_grown, whole_grown, trouble_grown, legal_more, happens_grown, first_sound}
+use Rattle.cd_world.specs.AgreedLaw.{fresh_first}
+use Rattle.cd_world.specs.PiecesLaw.{speaks, speaking, on_way, OfOpen, Silent, Calm, Known, Took, HeardTrue, GoesOn, AllGood, row_good, choose_good, close_good, told_abort, still_takes}
+use Rattle.cd_world.specs.SourcesLaw.{TookAt, HeardAt, AllHeardAt, Sourced, BothSourced, go_tokens, heard_take, speaking_take, way_at, keep_sourced, does_sourced}
+
+-- The deeds behind a first part.
+good_first : (x : At) (sid : ℕ) (done more : List Deed) (w : World) → AllGood x sid w (done ++ more) → AllGood x sid w done
+good_first x sid [] more w good = tt
+good_first x sid (Keep e ∷ done) more w good = (good.0, good_first x sid done more (world_did x sid (Keep e) w) good.1)
+good_first x sid (Touch change ∷ done) more w good = (good.0, good.1, good_first x sid done more (world_did x sid (Touch change) w) good.2)
+good_first x sid (AskSize name ∷ done) more w good = (good.0, good_first x sid done more (world_did x sid (AskSize name) w) good.1)
+good_first x sid (AskBytes name at len ∷ done) more w good = (good.0, good_first x sid done more (world_did x sid (AskBytes name at len) w) good.1)
+good_first x sid (Begin key phase ∷ done) more w good = (good.0, good.1, good_first x sid done more (world_did x sid (Begin key phase) w) good.2)
+good_first x sid (Go phase frames ∷ done) more w good = (good.0, good_first x sid done more (world_did x sid (Go phase frames) w) good.1)
+
+good_rest : (x : At) (sid : ℕ) (done more : List Deed) (w : World) → AllGood x sid w (done ++ more) → AllGood x sid (world_does x sid done w) more
+good_rest x sid [] more w good = good
+good_rest x sid (Keep e ∷ done) more w good = good_rest x sid done more (world_did x sid (Keep e) w) good.1
+good_rest x sid (Touch change ∷ done) more w good = good_rest x sid done more (world_did x sid (Touch change) w) good.2
+good_rest x sid (AskSize name ∷ done) more w good = good_rest x sid done more (world_did x sid (AskSize name) w) good.1
+good_rest x sid (AskBytes name at len ∷ done) more w good = good_rest x sid done more (world_did x sid (AskBytes name at len) w) good.1
+good_rest x sid (Begin key phase ∷ done) more w good = good_rest x sid done more (world_did x sid (Begin key phase) w) good.2
+good_rest x sid (Go phase frames ∷ done) more w good = good_rest x sid done more (world_did x sid (Go phase frames) w) good.1
+
+-- a call of the files comes where nobody spoke yet
+call_silent : (x : At) (sid : ℕ) (cut : Cut) (more : List Deed) (shelf : shelves.Shelf) (w : World) → IsCutOff cut more shelf → AllGood x sid w more → Silent x sid w
+call_silent x sid (Begun left) (Touch change ∷ more) shelf w is good = good.0
+call_silent x sid (Begun left) [] shelf w is good = absurd is
+call_silent x sid (Begun left) (Keep e ∷ more) shelf w is good = absurd is
+call_silent x sid (Begun left) (AskSize name ∷ more) shelf w is good = absurd is
+call_silent x sid (Begun left) (AskBytes name at len ∷ more) shelf w is good = absurd is
+call_silent x sid (Begun left) (Begin key phase ∷ more) shelf w is good = absurd is
+call_silent x sid (Begun left) (Go phase frames ∷ more) shelf w is good = absurd is
+call_silent x sid Unchanged (Touch change ∷ more) shelf w is good = good.0
+call_silent x sid Unchanged (AskSize name ∷ more) shelf w is good = good.0
+call_silent x sid Unchanged (AskBytes name at len ∷ more) shelf w is good = good.0
+call_silent x sid Unchanged [] shelf w is good = absurd is
+call_silent x sid Unchanged (Keep e ∷ more) shelf w is good = absurd is
+call_silent x sid Unchanged (Begin key phase ∷ more) shelf w is good = absurd is
+call_silent x sid Unchanged (Go phase frames ∷ more) shelf w is good = absurd is
+
+took_of : (x : At) (n now : ℕ) (w : World) (phase : Phase) → TookAt n w.a phase → Took x n now w phase
+took_of x n now w (Take role talk key came) t = t
+took_of x n now w phase t = tt
+
+heard_of : (x : At) (n now : ℕ) (w : World) (m : Message) → HeardAt x n w.a w.notes m → HeardTrue x n now w m
+heard_of x n now w (message.Data key offset bytes) h = h
+heard_of x n now w m h = tt
+
+-- a choice that opens no session sends nothing
+quiet_choice : (x : At) (sid : ℕ) (w : World) (desk : Desk) (now : ℕ) (connected : Bool) (chosen : Option Row) → opens (row_chosen desk now connected chosen) ≡ false → AllGood x sid w (row_chosen desk now connected chosen)
+quiet_choice x sid w desk now connected None quiet = tt
+quiet_choice x sid w desk now connected (Some chosen) quiet = by_waits connected (desk.config.partner chosen.snode) quiet where
+  by_waits : (b : Bool) (waits : Option Waits) → opens (call desk now b chosen waits) ≡ false → AllGood x sid w (call desk now b chosen waits)
+  by_waits b None q = (tt, tt)
+  by_waits true (Some waits) q = absurd (false≢true (sym q))
+  by_waits false (Some waits) q = (tt, tt)
+
+-- a task begins in such a world, and its deeds are good
+record GoodTask (x : At) (t : Task) : Type 0 where
+  sourced : BothSourced x t.world
+  good : AllGood x t.sid t.world t.deeds
+
+module _ (x : At) (w : World) (h : BothSourced x w) (sound : BothSound w) where
+  nothing_good : GoodTask x (nothing w)
+  nothing_good = record { sourced = h; good = tt }
+
+  with_session_sourced : BothSourced x (with_session w)
+  with_session_sourced = record {
+    a = record {
+      marks = h.a.marks;
+      bytes = h.a.bytes;
+      takes = h.a.takes;
+      datas = way_at (λ n more. AllHeardAt x n w.a w.notes more) w.sessions [] w.a.way tt h.a.datas;
+    };
+    b = record {
+      marks = h.b.marks;
+      bytes = h.b.bytes;
+      takes = h.b.takes;
+      datas = way_at (λ n more. AllHeardAt (across x) n w.b w.notes more) w.sessions [] w.b.way tt h.b.datas;
+    };
+    tokens = λ n. elim (eqb w.sessions n) as (λ b. speaking (cond b [] (w.a.way n)) + speaking (cond b [] (w.b.way n)) ≤ 1) [ true ↦ omega arith | false ↦ h.tokens n ];
+    sources = h.sources;
+  }
+
+  new_silent : Silent x w.sessions (with_session w)
+  new_silent =
+      let one : speaking (at_session w.sessions [] w.a.way w.sessions) ≡ 0 = ap speaking (cond-true (eqb w.sessions w.sessions) [] (w.a.way w.sessions) (eq-eqb w.sessions w.sessions refl)) in
+      let two : speaking (at_session w.sessions [] w.b.way w.sessions) ≡ 0 = ap speaking (cond-true (eqb w.sessions w.sessions) [] (w.b.way w.sessions) (eq-eqb w.sessions w.sessions refl)) in
+      omega (arith, one, two)
+
+  chosen_task : (connected : Bool) → GoodTask x (record { sid = w.sessions; deeds = row_choose w.a.node w.clock connected; world = cond (opens (row_choose w.a.node w.clock connected)) (with_session w) w })
+  chosen_task connected =
+      let deeds : List Deed = row_choose w.a.node w.clock connected in
+      elim (cases_Bool (opens deeds)) [
+        | inl new ↦
+            subst (λ (v : World). GoodTask x (record { sid = w.sessions; deeds = deeds; world = v })) (sym (cond-true (opens deeds) (with_session w) w new))
+            (record { sourced = with_session_sourced; good = choose_good x w.sessions (with_session w) w.a.node w.clock connected new_silent })
+        | inr none ↦
+            subst (λ (v : World). GoodTask x (record { sid = w.sessions; deeds = deeds; world = v })) (sym (cond-false (opens deeds) (with_session w) w none))
+            (record { sourced = h; good = quiet_choice x w.sessions w w.a.node.desk w.clock connected (next_due (journal_of w.a) w.clock (busy w.a.node.sessions)) none })
+      ]
+
+  called_task : (calls : List ℕ) → GoodTask x (called w calls)
+  called_task [] = nothing_good
+  called_task (sid ∷ more) =
+      let calm : on_way sid w ≤ 1 = h.tokens sid in
+      record {
+        sourced = record { a = record { marks = h.a.marks; bytes = h.a.bytes; takes = h.a.takes; datas = h.a.datas }; b = h.b; tokens = h.tokens; sources = h.sources };
+        good = (record { quiet = omega (arith, calm); sent = tt; takes = tt }, tt);
+      }
+
+  came_task : (sid : ℕ) (answers : Answers) (frames : List Message) → w.a.way sid ≡ frames → ToldFor w sid answers frames → GoodTask x (came w sid answers frames)
+  came_task sid answers [] is told = nothing_good
+  came_task sid answers (m ∷ more) is told =
+      let v : World = (came w sid answers (m ∷ more)).world in
+      let first : AllHeardAt x sid w.a w.notes (m ∷ more) = subst (AllHeardAt x sid w.a w.notes) is (h.a.datas sid) in
+      let count : speaking (w.a.way sid) ≡ speaks m + speaking more = ap speaking is in
+      let before : on_way sid w ≤ 1 = h.tokens sid in
+      let left : speaking (at_session sid more w.a.way sid) ≡ speaking more = ap speaking (cond-true (eqb sid sid) more (w.a.way sid) (eq-eqb sid sid refl)) in
+      let tokens : (n : ℕ) → on_way n v ≤ 1 =
+      way_at (λ n frames. speaking frames + speaking (w.b.way n) ≤ 1) sid more w.a.way (omega (arith, count, before)) h.tokens in
+      record {
+        sourced = record {
+          a = record { marks = h.a.marks; bytes = h.a.bytes; takes = h.a.takes; datas = way_at (λ n frames. AllHeardAt x n w.a w.notes frames) sid more w.a.way first.1 h.a.datas };
+          b = h.b;
+          tokens = tokens;
+          sources = h.sources;
+        };
+        good = row_good x sid v (answers_now w answers) m
+            (record { keyed = λ key r safe opens_is. (openings.open-on w.a.node.desk.config.read (journal_of w.a) key r safe sound.a.legal opens_is).0; marks = h.a.marks })
+            (tokens sid) (λ speaks_is. omega (arith, speaks_is, count, before, left)) (took_of x sid w.clock v (w.a.node.sessions.phase sid) (h.a.takes sid)) (heard_of x sid w.clock v m first.0) told;
+      }
+
+  ended_task : (sid : ℕ) (b : Bool) (frames : List Message) → GoodTask x (ended w sid b frames)
+  ended_task sid true [] = record { sourced = h; good = close_good x sid w w.clock (w.a.node.sessions.phase sid) (h.tokens sid) }
+  ended_task sid true (m ∷ frames) = nothing_good
+  ended_task sid false frames = nothing_good
+
+  unless_good : (b : Bool) (t : Task) → GoodTask x t → GoodTask x (cond b (nothing w) t)
+  unless_good true t good = nothing_good
+  unless_good false t good = good
+
+  while_good : (b : Bool) (t : Task) → GoodTask x t → GoodTask x (cond b t (nothing w))
+  while_good true t good = good
+  while_good false t good = nothing_good
+
+  task_of_good : (happening : Happening) → Told w happening → GoodTask x (task_of w happening)
+  task_of_good (Choice connected) told = chosen_task (connected && w.b.up)
+  task_of_good Call told = called_task w.a.calls
+  task_of_good (Frame sid answers) told = unless_good (is_gone (w.a.node.sessions.phase sid)) _ (came_task sid answers (w.a.way sid) refl told)
+  task_of_good (End sid) told = unless_good (is_gone (w.a.node.sessions.phase sid)) _ (ended_task sid (w.a.ends sid) (w.a.way sid))
+
+  task_good : (happening : Happening) → Told w happening → GoodTask x (task w happening)
+  task_good happening told = while_good w.a.up (task_of w happening) (task_of_good happening told)
+
+  -- after a first part of a task
+  part_sourced : (t : Task) → GoodTask x t → (done more : List Deed) → t.deeds ≡ done ++ more → BothGrown w (world_does x t.sid done t.world) → BothSourced x (world_does x t.sid done t.world)
+  part_sourced t good done more split grown =
+      let fit : AllGood x t.sid t.world done = good_first x t.sid done more t.world (subst (AllGood x t.sid t.world) split good.good) in
+      let there : is_legal (does t.sid done t.world.a.node).desk.config.read (does t.sid done t.world.a.node).desk.journal ≡ true =
+      subst (λ (node : Node). is_legal node.desk.config.read node.desk.journal ≡ true) (does_node x t.sid done t.world) grown.a.sound.legal in
+      does_sourced x t.sid done t.world good.sourced fit
+      (subst (λ (c : Config). is_legal c.read (does t.sid done t.world.a.node).desk.journal ≡ true) (same_config t.sid done t.world.a.node) there)
+
+  within_sourced : (happening : Happening) → Told w happening → (k : ℕ) → BothSourced x (world_within x happening k w)
+  within_sourced happening told k =
+      part_sourced (task w happening) (task_good happening told) (take k (task w happening).deeds) (drop k (task w happening).deeds) (sym (take-append-drop k (task w happening).deeds)) (within_grown x w sound happening k)
+
+  whole_sourced : (happening : Happening) → Told w happening → BothSourced x (world_after x happening w)
+  whole_sourced happening told =
+      part_sourced (task w happening) (task_good happening told) (task w happening).deeds [] (sym (append-nil (task w happening).deeds)) (whole_grown x w sound happening)
+
+trouble_good : (x : At) (sid : ℕ) (w : World) → BothSourced x w → Silent x sid w → AllGood x sid w (row_trouble w.a.node sid w.clock)
+trouble_good x sid w h silent =
+    let phase : Phase = w.a.node.sessions.phase sid in
+    let frames : List Message = trouble_for (key_under_way phase) in
+    let told = told_abort x sid (key_under_way phase) in
+    let few : speaking frames ≤ 1 = told.0 in
+    let quiet : speaking frames + on_way sid w ≤ 1 = omega (arith, silent, few) in
+    let goes : GoesOn x sid w phase frames = record { quiet = quiet; sent = told.1 w; takes = still_takes x sid w frames phase w.clock told.2 (took_of x sid w.clock w phase (h.a.takes sid)) } in
+    (goes, close_good x sid (world_did x sid (Go phase frames) w) w.clock phase (go_tokens x sid w phase frames quiet h.tokens sid))
+
+faulted_sourced : (x : At) (w : World) → BothSourced x w → BothSound w → (happening : Happening) → Told w happening → (k : ℕ) (cut : Cut)
+    → IsCutOff cut (deeds_left happening k w) (world_within x happening k w).a.node.shelf → BothSourced x (world_faulted x happening k cut w)
+faulted_sourced x w h sound happening told k cut is =
+    let t : Task = task w happening in
+    let first : World = world_within x happening k w in
+    let short : World = with_shelf (cut_off cut (deeds_left happening k w) first.a.node.shelf) first in
+    let grown : BothGrown w first = within_grown x w sound happening k in
+    let sourced : BothSourced x first = within_sourced x w h sound happening told k in
+    let short_sound : BothSound short = record { a = grown.a.sound; b = grown.b.sound } in
+    let short_sourced : BothSourced x short =
+    record { a = record { marks = sourced.a.marks; bytes = sourced.a.bytes; takes = sourced.a.takes; datas = sourced.a.datas }; b = sourced.b; tokens = sourced.tokens; sources = sourced.sources } in
+    let good : AllGood x t.sid t.world (take k t.deeds ++ drop k t.deeds) = subst (AllGood x t.sid t.world) (sym (take-append-drop k t.deeds)) (task_good x w h sound happening told).good in
+    let silent : Silent x t.sid short = call_silent x t.sid cut (drop k t.deeds) first.a.node.shelf first is (good_rest x t.sid (take k t.deeds) (drop k t.deeds) t.world good) in
+    let closing : Task = record { sid = t.sid; deeds = row_trouble short.a.node t.sid short.clock; world = short } in
+    part_sourced x short short_sourced short_sound closing (record { sourced = short_sourced; good = trouble_good x t.sid short short_sourced silent }) closing.deeds [] (sym (append-nil closing.deeds))
+    (trouble_grown x short short_sound t.sid)
+
+marked_enough : (s : Status) (last : Option Receiving) (safe tries : ℕ) (r : Receiving) (m : ℕ) → status.Says s last safe tries → s ≡ status.Open r m → safe ≡ m
+marked_enough status.Fresh last safe tries r m says is = absurd cc
+marked_enough (status.Started times kind) last safe tries r m says is = absurd cc
+marked_enough (status.Done o) last safe tries r m says is = absurd cc
+marked_enough (status.Open q n) last safe tries r m says is = let same : n ≡ m = cc in says.1 ∙ same
+
+module _ (x : At) (w : World) (h : BothSourced x w) where
+  down_sourced : (image : shelves.FileMap) → BothSourced x (down image w)
+  down_sourced image = record {
+    a = record { marks = h.a.marks; bytes = h.a.bytes; takes = λ n. tt; datas = λ n. tt };
+    b = record { marks = h.b.marks; bytes = h.b.bytes; takes = h.b.takes; datas = h.b.datas };
+    tokens = λ n. let before : on_way n w ≤ 1 = h.tokens n in omega (arith, before);
+    sources = h.sources;
+  }
+
+  marked_marks : (key : Key) → OfOpen (journal_of w.a) key (λ r safe. safe ≤ length (marked (journal_of w.a) w.a.received key))
+  marked_marks key r safe is =
+      let same : mark (journal_of w.a) key ≡ safe = marked_enough (status.status (journal_of w.a) key) _ (mark (journal_of w.a) key) _ r safe (status_says (journal_of w.a) key) is in
+      let enough : safe ≤ length (w.a.received key) = h.a.marks key r safe is in
+      let len : length (take (mark (journal_of w.a) key) (w.a.received key)) ≡ min (mark (journal_of w.a) key) (length (w.a.received key)) = length-take (mark (journal_of w.a) key) (w.a.received key) in
+      omega (arith, same, enough, len)
+
+  started_sourced : (b : Bool) → BothSourced x (cond b w (record w { a = record w.a { node = record w.a.node { sessions = no_sessions }; up = true; received = marked w.a.node.desk.journal w.a.received } }))
+  started_sourced true = h
+  started_sourced false = record {
+    a = record {
+      marks = marked_marks;
+      bytes = λ key r safe is source len agrees. front_take (mark (journal_of w.a) key) (w.a.received key) source (h.a.bytes key r safe is source len agrees);
+      takes = λ n. tt;
+      datas = λ n. no_holder n (w.a.way n);
+    };
+    b = h.b;
+    tokens = h.tokens;
+    sources = h.sources;
+  } where
+    no_holder : (n : ℕ) (frames : List Message) → AllHeardAt x n (record w.a { node = record w.a.node { sessions = no_sessions }; up = true; received = marked w.a.node.desk.journal w.a.received }) w.notes frames
+    no_holder n [] = tt
+    no_holder n (message.Data key offset bytes ∷ frames) = (λ held. absurd cc, no_holder n frames)
+    no_holder n (message.Bye ∷ frames) = (tt, no_holder n frames)
+    no_holder n (m ∷ frames) = (tt, no_holder n frames)
+
+  lost_sourced : (sid k : ℕ) → BothSourced x (world_lost sid k w)
+  lost_sourced sid k =
+      let before : on_way sid w ≤ 1 = h.tokens sid in
+      let less : speaking (take k (w.a.way sid)) ≤ speaking (w.a.way sid) = speaking_take k (w.a.way sid) in
+      record {
+        a = record {
+          marks = h.a.marks;
+          bytes = h.a.bytes;
+          takes = h.a.takes;
+          datas = way_at (λ n frames. AllHeardAt x n w.a w.notes frames) sid (take k (w.a.way sid)) w.a.way (heard_take x sid w.a w.notes k (w.a.way sid) (h.a.datas sid)) h.a.datas;
+        };
+        b = h.b;
+        tokens = way_at (λ n frames. speaking frames + speaking (w.b.way n) ≤ 1) sid (take k (w.a.way sid)) w.a.way (omega (arith, before, less)) h.tokens;
+        sources = h.sources;
+      }
+
+  written_sourced : (name bytes : List ℕ) → BothSourced x (world_written name bytes w)
+  written_sourced name bytes = record { a = record { marks = h.a.marks; bytes = h.a.bytes; takes = h.a.takes; datas = h.a.datas }; b = h.b; tokens = h.tokens; sources = h.sources }
+
+  later_sourced : (seconds : ℕ) → BothSourced x (later seconds w)
+  later_sourced seconds = record { a = h.a; b = h.b; tokens = h.tokens; sources = h.sources }
+
+  submitted_sourced : (sound : BothSound w) (card : Filed) (text : List ℕ) → BothSourced x (world_submitted card text w)
+  submitted_sourced sound card text =
+      let e : Entry = submission_of card text w in
+      let new : World = record w { a = record w.a { node = record w.a.node { desk = recorded e w.a.node.desk } } } in
+      let test : Bool = w.a.up && allowed w.a.node.desk.config.read (journal_of w.a) e in
+      elim (cases_Bool test) [
+        | inl fits ↦
+            let kept : BothSourced x (world_did x 0 (Keep e) w) = keep_sourced x 0 w e h sound.a.legal tt in
+            subst (λ (b : Bool). BothSourced x (cond b new w)) (sym fits) kept
+        | inr none ↦ subst (λ (b : Bool). BothSourced x (cond b new w)) (sym none) h
+      ]
+
+stopped_sourced : (x : At) (w : World) → BothSourced x w → BothSound w → (happening : Happening) → Told w happening → (k : ℕ) (image : shelves.FileMap) (b : Bool)
+    → BothSourced x (cond b (down image (world_within x happening k w)) w)
+stopped_sourced x w h sound happening told k image true = down_sourced x (world_within x happening k w) (within_sourced x w h sound happening told k) image
+stopped_sourced x w h sound happening told k image false = h
+
+-- an event at either node
+there : (x : At) (w : World) (f : World → World) → (BothSourced x (seen_from x w) → BothSound (seen_from x w) → BothSourced x (f (seen_from x w))) → BothSourced A w → BothSound w → BothSourced A (seen_from x (f (seen_from x w)))
+there A w f step h sound = step h sound
+there B w f step h sound =
+    let done = step (record { a = h.b; b = h.a; tokens = λ n. turned _ _ (h.tokens n); sources = h.sources }) (record { a = sound.b; b = sound.a }) in
+    record { a = done.b; b = done.a; tokens = λ n. turned _ _ (done.tokens n); sources = done.sources } where
+      turned : (m n : ℕ) → m + n ≤ 1 → n + m ≤ 1
+      turned m n less = omega (arith, less)
+
+pub happens_sourced : (w : World) (event : Event) → IsPossible w event → BothSourced A w → BothSound w → BothSourced A (happens w event)
+happens_sourced w (Does x happening) possible h sound = there x w (world_after x happening) (λ h2 sound2. whole_sourced x (seen_from x w) h2 sound2 happening possible) h sound
+happens_sourced w (Fails x happening k cut) possible h sound =
+    there x w (world_faulted x happening k cut) (λ h2 sound2. faulted_sourced x (seen_from x w) h2 sound2 happening possible.0 k cut possible.1) h sound
+happens_sourced w (Stops x happening k image) possible h sound =
+    there x w (world_stopped x happening k image) (λ h2 sound2. stopped_sourced x (seen_from x w) h2 sound2 happening possible.0 k image (seen_from x w).a.up) h sound
+happens_sourced w (Starts x) possible h sound = there x w world_started (λ h2 sound2. started_sourced x (seen_from x w) h2 (seen_from x w).a.up) h sound
+happens_sourced w (Loses x sid k) possible h sound = there x w (world_lost sid k) (λ h2 sound2. lost_sourced x (seen_from x w) h2 sid k) h sound
+happens_sourced w (Writes x name bytes) possible h sound = there x w (world_written name bytes) (λ h2 sound2. written_sourced x (seen_from x w) h2 name bytes) h sound
+happens_sourced w (Later seconds) possible h sound = later_sourced A w h seconds
+happens_sourced w (Submits x card text) possible h sound = there x w (world_submitted card text) (λ h2 sound2. submitted_sourced x (seen_from x w) h2 sound2 card text) h sound
+
+pub after_sourced : (w : World) (events : List Event) → ArePossible w events → BothSourced A w → BothSound w → BothSourced A (after w events)
+after_sourced w [] possible h sound = h
+after_sourced w (event ∷ events) possible h sound =
+    let grown : BothGrown w (happens w event) = happens_grown w event sound in
+    after_sourced (happens w event) events possible.1 (happens_sourced w event possible.0 h sound) (record { a = grown.a.sound; b = grown.b.sound })
+
+new_sourced : (x : At) (name : List ℕ) (home : ℕ) (half : Half) (notes : List Note) → IsNew name home half → Sourced x half notes
+new_sourced x name home half notes new =
+    let fresh : (key : Key) → status.status (journal_of half) key ≡ status.Fresh = λ key. ap (λ (journal : List Entry). status.status journal key) new.journal ∙ fresh_first name home key in
+    let closed : (key : Key) → OfOpen (journal_of half) key (λ r safe. ⊥) = λ key r safe is. never r safe (sym (fresh key) ∙ is) in
+    record {
+      marks = λ key r safe is. absurd (closed key r safe is);
+      bytes = λ key r safe is. absurd (closed key r safe is);
+      takes = λ n. subst (TookAt n half) (ap (λ (s : Sessions). s.phase n) (sym new.sessions)) tt;
+      datas = λ n. subst (AllHeardAt x n half notes) (ap (λ (way : ℕ → List Message). way n) (sym new.way)) tt;
+    } where
+      never : (r : Receiving) (safe : ℕ) → status.Fresh ≡ status.Open r safe → ⊥
+      never r safe is = cc
+
+pub first_sourced : (w : World) → IsFirst w → BothSourced A w
+first_sourced w first = record {
+  a = new_sourced A first.name_a first.home_a w.a w.notes first.a;
+  b = new_sourced B first.name_b first.home_b w.b w.notes first.b;
+  tokens = λ n.
+      let a : speaking (w.a.way n) ≡ 0 = ap (λ (way : ℕ → List Message). speaking (way n)) first.a.way in
+      let b : speaking (w.b.way n) ≡ 0 = ap (λ (way : ℕ → List Message). speaking (way n)) first.b.way in
+      omega (arith, a, b);
+  sources = subst AreSources (sym first.notes) tt;
+}
+
+pub events_sources : (w : World) (events : List Event) → IsFirst w → ArePossible w events → AreSources (after w events).notes
+events_sources w events first possible = (after_sourced w events possible (first_sourced w first) (first_sound w first)).sources
