@@ -1,6 +1,6 @@
 //! A part is checked where it begins.
 ghost use Rattle.std.specs.Prelude.{◌≡◌, true, false, map, option_map, IfOk};
-ghost use Rattle.cd_checked.specs.Kept.{kept_in};
+ghost use Rattle.cd_checked.specs.Kept.{allowed_kept, kept_in};
 ghost use Rattle.cd_book.specs.Book.{is_submission};
 ghost use Rattle.cd_moves.specs.Rows.{is_by, is_formed, may_record, are_allowed, checked};
 ghost use Rattle.cd_moves.specs.Seen.{seen_deed, seen_part};
@@ -8,6 +8,7 @@ ghost use Rattle.cd_status.specs.Processes.{moment_of};
 ghost use Rattle.cd_parts.specs.Desk.{desk_of};
 ghost use Rattle.cd_parts.specs.Single.{keeps_one};
 
+use crate::sending::are_sent;
 use cd_book::Texts;
 use cd_entries::Entry;
 use cd_judge::may_follow;
@@ -94,14 +95,24 @@ fn kept_in<'d>(deeds: &'d [Deed<'_>]) -> Option<&'d Entry>
 }
 
 /// Whether the one entry of these deeds may be recorded now.
-fn are_allowed<T: Texts>(desk: &Desk<T>, now: Moment, deeds: &[Deed<'_>]) -> bool
+fn is_entry_allowed<T: Texts>(desk: &Desk<T>, now: Moment, deeds: &[Deed<'_>]) -> bool
     requires { keeps_one (map seen_deed deeds.now) ≡ true }
-    ensures { result ≡ are_allowed T.read now desk.now.book.entries (map seen_deed deeds.now) }
+    ensures { result ≡ allowed_kept T.read now desk.now.book.entries (kept_in deeds.now) }
 {
     match kept_in(deeds) {
         None => true,
         Some(entry) => may_record(desk, now, entry),
     }
+}
+
+/// Whether the one entry of these deeds may be recorded now, and their frames are in their form.
+fn are_allowed<T: Texts>(desk: &Desk<T>, now: Moment, deeds: &[Deed<'_>]) -> bool
+    requires { keeps_one (map seen_deed deeds.now) ≡ true }
+    ensures { result ≡ are_allowed T.read now desk.now.book.entries (map seen_deed deeds.now) }
+{
+    let entry = is_entry_allowed(desk, now, deeds);
+    let frames = are_sent(deeds);
+    entry && frames
 }
 
 /// A part whose entry may be recorded; else the session is closed, and none of the part is done. A part has one entry

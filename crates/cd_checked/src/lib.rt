@@ -2,5 +2,6 @@
 #![tactic(auto)]
 
 mod checking;
+mod sending;
 
 pub use checking::checked;

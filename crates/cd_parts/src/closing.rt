@@ -182,8 +182,12 @@ fn trouble_for<'a>(alloc: Global, phase: &Phase) -> Result<Deed<'a>, NoMemory>
     match key_under_way(phase) {
         None => Ok(quietly(alloc, copy)),
         Some(key) => {
-            let deed = go(alloc, copy, Outgoing::Abort(key, Cause::Trouble))?;
-            Ok(deed)
+            if key.place < 1024 {
+                let deed = go(alloc, copy, Outgoing::Abort(key, Cause::Trouble))?;
+                Ok(deed)
+            } else {
+                Ok(quietly(alloc, copy))
+            }
         }
     }
 }
