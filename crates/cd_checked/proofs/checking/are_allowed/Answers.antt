@@ -1,8 +1,14 @@
-use Rattle.std.proofs.Common.{sym, ◌∙◌, rules}
+use Rattle.std.proofs.Common.{◌≡◌, ◌&&◌, Bool, true, false, sym, ap, ◌∙◌}
+use Rattle.cd_checked.specs.Kept.{kept_in, are_sent, allowed_kept}
 use Rattle.cd_checked.proofs.One.{allowed_by}
 use Rattle.cd_checked.proofs.checking.are_allowed.Goals as goal
 
-pub returns : goal.returns
-returns g c =
+pub returns-then-entry : goal.returns-then-entry
+returns-then-entry g c =
     let law = allowed_by g.T.Texts.read c.args.now c.args.desk.now.book.entries c.args.deeds.now c.requires in
-    search rules
+    c.are_sent-frames.ensures ∙ ap (λ (b : Bool). b && are_sent c.args.deeds.now) c.if-entry.ensures ∙ sym law
+
+pub returns-else-entry : goal.returns-else-entry
+returns-else-entry g c =
+    let law = allowed_by g.T.Texts.read c.args.now c.args.desk.now.book.entries c.args.deeds.now c.requires in
+    c.if-entry.false ∙ ap (λ (b : Bool). b && are_sent c.args.deeds.now) c.if-entry.ensures ∙ sym law
