@@ -179,8 +179,8 @@ fn ended_process(
     Ok(())
 }
 
-fn coming(alloc: Global, key: Key, length: u64) -> Result<Entry, Fail> {
-    Ok(Entry::Receiving(Receiving {
+fn coming(alloc: Global, key: Key, length: u64) -> Result<Receiving, Fail> {
+    Ok(Receiving {
         key,
         name: Bytes::copy_of(alloc, b"in")?,
         disp: Disp::New,
@@ -188,7 +188,7 @@ fn coming(alloc: Global, key: Key, length: u64) -> Result<Entry, Fail> {
         base: 0,
         length,
         interval: 4,
-    }))
+    })
 }
 
 #[test]
@@ -197,14 +197,14 @@ fn receiving(rt: HostRuntime) -> Result<(), Fail> {
     let mut book = begun(&rt, alloc)?;
     let step = key(b"BETA", 23, 7)?;
     let other = key(b"BETA", 23, 8)?;
-    add(&rt, &mut book, coming(alloc, step, 10)?)?;
+    add(&rt, &mut book, Entry::Receiving(coming(alloc, step, 10)?))?;
     add(&rt, &mut book, Entry::Mark(step, 4))?;
     assert!(rt; matches!(book.status(&step), Status::Open(_, 4)));
     assert!(rt; !may_follow(&book, &Entry::Mark(step, 12), None));
-    assert!(rt; !may_follow(&book, &coming(alloc, other, 8)?, None));
+    assert!(rt; !may_follow(&book, &Entry::Receiving(coming(alloc, other, 8)?), None));
     assert!(rt; book.is_in_use(&other, b"in") && !book.is_in_use(&step, b"in"));
     assert!(rt; book.is_receiving_for(&step.pnode, 23, step.number));
-    add(&rt, &mut book, coming(alloc, step, 8)?)?;
+    add(&rt, &mut book, Entry::Receiving(coming(alloc, step, 8)?))?;
     assert_eq!(rt; book.mark(&step), 0);
     assert!(rt; matches!(book.receiving(b"in"), Some(found) if found.length == 8));
     assert!(rt; matches!(book.receiving_of(&step), Some(found) if found.length == 8));
@@ -234,7 +234,7 @@ fn landed(
     add(rt, book, Entry::Forgot(step.pnode, 23, step.number))?;
     assert!(rt; book.is_over(&step) && !book.is_over(&other));
     assert!(rt; book.is_forgotten(&step.pnode, 23, step.number));
-    add(rt, book, coming(alloc, other, 8)?)?;
+    add(rt, book, Entry::Receiving(coming(alloc, other, 8)?))?;
     add(rt, book, Entry::Dropped(other, 8, Cause::NoSource, now))?;
     assert!(rt; matches!(book.outcome(&other), Some(found) if found.rc == 8));
     assert!(rt; book.made_for(&other).is_none());

@@ -1,0 +1,5 @@
+pub mod Desk
+pub mod Sessions
+pub mod Single
+pub mod SingleLaw
+pub mod Within

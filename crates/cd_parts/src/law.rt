@@ -1,0 +1,15 @@
+//! The law of parts.
+ghost use Rattle.std.specs.Prelude.{◌≡◌, ℕ, true};
+ghost use Rattle.cd_frames.specs.Message.{Message};
+ghost use Rattle.cd_moves.specs.declared.session.Phase.{Phase};
+ghost use Rattle.cd_moves.specs.declared.session.Then.{Then};
+ghost use Rattle.cd_moves.specs.Node.{Desk, Sessions, Answers};
+ghost use Rattle.cd_moves.specs.Rows.{part_in, part_behind};
+ghost use Rattle.cd_parts.specs.Single.{keeps_one};
+
+/// Whatever frame comes in whatever phase, and whatever comes behind a part: a part records one entry at most, and none
+/// that submits a Process.
+pub fn law_of_parts()
+    ensures first { (desk : Desk) (sessions : Sessions) (now sid : ℕ) (m : Message) (phase : Phase) → keeps_one (part_in desk sessions now sid m phase).deeds ≡ true }
+    ensures behind { (desk : Desk) (now : ℕ) (phase : Phase) (answers : Answers) (then : Then) → keeps_one (part_behind desk now phase answers then).deeds ≡ true }
+{}
