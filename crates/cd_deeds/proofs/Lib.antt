@@ -1,6 +1,8 @@
 mod Doing
 mod Joint
+mod Ready
 mod Recording
 mod Rows
 mod Sending
+mod Short
 mod Touching

@@ -1,5 +1,5 @@
 -- What a registry comes to when an entry is recorded.
-use Rattle.std.proofs.Common.{◌≡◌, ◌⊎◌, inl, inr, ⊎_elim, ℕ, ◌+◌, ◌≤◌, ◌<◌, List, [], ◌∷◌, ◌++◌, length, map, reverse, Result, Ok, Err, refl, sym, ap, subst, ◌∙◌, arith}
+use Rattle.std.proofs.Common.{◌≡◌, ◌⊎◌, inl, inr, ⊎_elim, ℕ, ◌+◌, ◌≤◌, ◌<◌, List, [], ◌∷◌, ◌++◌, length, map, reverse, max, Result, Ok, Err, refl, sym, ap, subst, ◌∙◌, arith}
 use Rattle.std.proofs.lemmas.List.{map_push, length-append, reverse-append}
 use Rattle.cd_types.specs.Number.{number_bytes}
 use Rattle.cd_types.specs.NumberLaw.{number_has_length}
@@ -7,11 +7,13 @@ use Rattle.cd_outside.specs.Doubt.{Doubt, settled, IsImage}
 use Rattle.cd_outside.specs.Disk.{DiskState, last_of, LeftAt}
 use Rattle.cd_outside.specs.Moments.{Moments}
 use Rattle.cd_outside.proofs.Images.{settled_image}
-use Rattle.cd_outside.proofs.Runs.{moments_none, moments_weaker}
-use Rattle.cd_journal.specs.Bytes.{Listing, list_of}
+use Rattle.cd_outside.specs.Through.{IsSettledAs}
+use Rattle.cd_outside.proofs.Runs.{moments_none, moments_then, moments_weaker}
+use Rattle.cd_journal.specs.Bytes.{Listing, header, list_of}
 use Rattle.cd_journal.specs.Fault.{IfFull, IfUnfit, OnNoMemory}
 use Rattle.cd_journal.specs.Index.{IsClosed, bodies_in}
-use Rattle.cd_journal.specs.Journal.{Held, IsAt, KeepsList, with_last, IsBeforeOrAfter}
+use Rattle.cd_journal.proofs.Fronts.{list_of-closed, front_header}
+use Rattle.cd_journal.specs.Journal.{Held, Opens, IsAt, KeepsList, with_last, IsBeforeOrAfter}
 use Rattle.cd_journal.specs.declared.fault.JournalFault.{JournalFault}
 use Rattle.cd_journal.specs.declared.fault.JournalFault.TheVariants as of_journal
 use Rattle.cd_journal.specs.declared.place.Place.{Place}
@@ -105,3 +107,35 @@ keeps_through old was now new keeps before after = subst (λ (held : Held). Keep
 -- a deed that records nothing
 pub unchanged_by : (deed : Deed) (registry : RegistryState) (disk : DiskState) (from : ℕ) → IsRegistry registry disk → last_of disk.calls ≤ from → Moments (LeftAt disk) (LeftAt disk) from (IsKeptOrNot deed registry.entries)
 unchanged_by deed registry disk from is order = moments_none disk disk from (IsKeptOrNot deed registry.entries) refl order (λ image left. inl (rests_image registry disk image is left))
+
+-- The journal was just made.
+
+pub made_list : (seen : List ℕ) → seen ≡ header ++ 0 ∷ [] → list_of seen ≡ Ok []
+made_list seen made = ap list_of made ∙ list_of-closed header 0 [] [] front_header (omega arith)
+
+pub made_registry : (journal : Held) (entries : List Entry) (disk : DiskState) → Opens journal disk → disk.seen ≡ header ++ 0 ∷ [] → entries ≡ [] → IsRegistry (record { journal = journal; entries = entries }) disk
+made_registry journal entries disk opens seen none = record {
+  list = made_list disk.seen seen ∙ ap (λ (es : List Entry). listed (map entry_bytes (reverse es))) (sym none);
+  at = opens.at;
+  header = opens.header;
+  rests = opens.rests;
+}
+
+-- no place of it is unfit
+pub made_fits : (T U : Type 0) (told : JournalFault) (seen : List ℕ) → seen ≡ header ++ 0 ∷ [] → IfUnfit {T = T} (Err told) (λ at. list_of seen ≡ Err at) → IfUnfit {T = U} (Err told) (λ at. ⊥)
+made_fits T U of_journal.Disk seen made bad = tt
+made_fits T U (of_journal.Full len) seen made bad = tt
+made_fits T U (of_journal.Unfit at) seen made bad = let h : listed [] ≡ Err at = sym (made_list seen made) ∙ bad in absurd cc
+made_fits T U of_journal.NoMemory seen made bad = tt
+
+-- a crash leaves at most nine bytes
+pub made_moments : (before middle after : DiskState) (from now : ℕ) → before.doubt ≡ settled [] → IsSettledAs (header ++ 0 ∷ []) middle → from ≤ now → Moments (LeftAt before) (LeftAt middle) from (λ image. length image ≤ max before.doubt.greatest 9)
+    → Moments (LeftAt middle) (LeftAt after) now (IsImage middle.doubt) → Moments (LeftAt before) (LeftAt after) from (λ image. length image ≤ 9)
+made_moments before middle after from now rests made order one two =
+    moments_then (LeftAt before) (LeftAt middle) (LeftAt after) from now (λ image. length image ≤ 9) order
+    (moments_weaker (LeftAt before) (LeftAt middle) from (λ image. length image ≤ max before.doubt.greatest 9) (λ image. length image ≤ 9) (λ image le. nine image le) one)
+    (moments_weaker (LeftAt middle) (LeftAt after) now (IsImage middle.doubt) (λ image. length image ≤ 9)
+    (λ image left. let is : image ≡ header ++ 0 ∷ [] = settled_image (header ++ 0 ∷ []) image (subst (λ (d : Doubt). IsImage d image) made.doubt left) in subst (λ (bytes : List ℕ). length bytes ≤ 9) (sym is) (omega arith)) two)
+  where
+    nine : (image : List ℕ) → length image ≤ max before.doubt.greatest 9 → length image ≤ 9
+    nine image le = let none : before.doubt.greatest ≡ 0 = ap (λ (d : Doubt). d.greatest) rests in omega arith

@@ -5,11 +5,11 @@ use Rattle.std.proofs.Math.Seq.{drop-cons, take-suc}
 use Rattle.std.proofs.lemmas.List.{append-nil, take-append-drop, map-append}
 use Rattle.cd_outside.specs.Counts.{next, Rose}
 use Rattle.cd_outside.specs.Lines.{Traffic, LineCounts, NeverFell, sent, GaveFront}
-use Rattle.cd_frames.specs.Frame.{frame_bytes}
+use Rattle.cd_frames.specs.Frame.{frame_bytes, IsWritable}
 use Rattle.cd_frames.specs.Message.{Message}
 use Rattle.cd_moves.specs.Seen.{seen_frame}
 use Rattle.cd_moves.specs.declared.deed.Outgoing.{Outgoing}
-use Rattle.cd_deeds.specs.Stands.{gave, GaveSome, IsSendable, AreSendable}
+use Rattle.cd_deeds.specs.Stands.{gave, GaveSome, AreSendable}
 
 -- nothing was given
 pub gave_none : (sid : ℕ) (bytes : List ℕ) (traffic : Traffic) → GaveFront sid bytes traffic traffic
@@ -28,7 +28,7 @@ gave_more sid [] m traffic = refl
 gave_more sid (first ∷ frames) m traffic = gave_more sid frames m (sent sid (frame_bytes first) traffic)
 
 -- the frame behind these can be sent
-pub sendable_at : (frames more : List Message) (m : Message) → AreSendable (frames ++ m ∷ more) → IsSendable m
+pub sendable_at : (frames more : List Message) (m : Message) → AreSendable (frames ++ m ∷ more) → IsWritable m
 sendable_at [] more m are = are.0
 sendable_at (first ∷ frames) more m are = sendable_at frames more m are.1
 
@@ -47,7 +47,7 @@ pub frames_more : (frames : List Outgoing) (i : ℕ) (f : Outgoing) → i < leng
 frames_more frames i f lt is = ap (map seen_frame) (taken_more frames i f lt is) ∙ map-append seen_frame (take i frames) (f ∷ [])
 
 -- the frame at hand can be sent
-pub sendable_here : (frames : List Outgoing) (i : ℕ) (f : Outgoing) → i < length frames → f ≡ get_or frames i f → AreSendable (map seen_frame frames) → IsSendable (seen_frame f)
+pub sendable_here : (frames : List Outgoing) (i : ℕ) (f : Outgoing) → i < length frames → f ≡ get_or frames i f → AreSendable (map seen_frame frames) → IsWritable (seen_frame f)
 sendable_here frames i f lt is are = sendable_at (map seen_frame (take i frames)) (map seen_frame (drop (i + 1) frames)) (seen_frame f) (subst AreSendable (frames_split frames i f lt is) are)
 
 -- it was cut off

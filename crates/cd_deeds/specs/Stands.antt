@@ -1,14 +1,19 @@
 -- How deeds that are done go with the node of the rules.
-use Rattle.std.specs.Prelude.{◌≡◌, ◌⊎◌, ℕ, ◌+◌, ◌^◌, ◌<◌, ◌≤◌, List, length, true, [], ◌∷◌, ◌++◌, Option, Some, None, if◌then◌else◌}
+use Rattle.std.specs.Prelude.{◌≡◌, ◌⊎◌, ℕ, ◌+◌, ◌^◌, ◌<◌, List, length, true, [], ◌∷◌, ◌++◌, Option, Some, None, if◌then◌else◌}
+use Rattle.cd_types.specs.Compound.{IsOptional}
+use Rattle.cd_types.specs.Key.{IsPlace}
+use Rattle.cd_types.specs.NodeName.{IsNodeName}
 use Rattle.cd_types.specs.declared.key.Key.{Key}
 use Rattle.cd_outside.specs.Shelf.{Shelf}
 use Rattle.cd_outside.specs.Lines.{Traffic, sent, GaveFront}
 use Rattle.cd_journal.specs.declared.fault.JournalFault.{JournalFault}
 use Rattle.cd_journal.specs.declared.fault.JournalFault.TheVariants as of_journal
 use Rattle.cd_entries.specs.declared.entry.Entry.{Entry}
+use Rattle.cd_entries.specs.declared.entry.Entry.TheVariants as entry
 use Rattle.cd_entries.specs.Entry as an_entry
 use Rattle.cd_entries.specs.Entry.{entry_bytes}
-use Rattle.cd_frames.specs.Frame.{frame_bytes, body_bytes, IsWritable}
+use Rattle.cd_frames.specs.Frame.{frame_bytes, IsWritable}
+use Rattle.cd_frames.specs.Message as message
 use Rattle.cd_frames.specs.Message.{Message}
 use Rattle.cd_legal.specs.Legal.{allowed}
 use Rattle.cd_legal.specs.Steps.{Reading}
@@ -100,20 +105,15 @@ pub record WasTorn (files_told lines_told : Type 0) (sid : ℕ) (deed : Deed) (b
   pub shelf : files_told → ShelfTorn deed before.shelf after.shelf
   pub traffic : lines_told → TrafficTorn sid deed before.traffic after.traffic
 
--- a frame that can be sent: each field is in its range, and it isn't too long
-pub record IsSendable (m : Message) : Type 0 where
-  pub writable : IsWritable m
-  pub short : length (body_bytes m) ≤ 131072
-
+-- each of these frames can be sent: its fields are in their range
 abbrev pub AreSendable : List Message → Type 0
 AreSendable [] = Unit {0}
-AreSendable (m ∷ frames) = IsSendable m × AreSendable frames
+AreSendable (m ∷ frames) = IsWritable m × AreSendable frames
 
--- an entry that can be recorded: it may follow the entries, each field is in its range, and it isn't too long
+-- an entry that can be recorded: it may follow the entries, and its fields are in their range
 pub record MayBeKept (read : Reading) (entries : List Entry) (e : Entry) : Type 0 where
   pub next : allowed read entries e ≡ true
   pub writable : an_entry.IsWritable e
-  pub short : length (entry_bytes e) ≤ 262144
 
 -- what a deed asks
 abbrev pub IsReady : Reading → List Entry → Deed → Type 0
@@ -125,6 +125,16 @@ IsReady read entries _ = Unit {0}
 abbrev pub AreReady : Reading → List Entry → List Deed → Type 0
 AreReady read entries [] = Unit {0}
 AreReady read entries (deed ∷ deeds) = IsReady read entries deed × AreReady read (kept deed entries) deeds
+
+-- Where a submission comes of another Process's step, that step's place is one of 1,024. The rules' rows submit nothing.
+abbrev pub HasFormedOrigin : Entry → Type 0
+HasFormedOrigin (entry.Submitted number moment origin card text) = IsOptional (λ step. IsPlace step.place) origin
+HasFormedOrigin _ = Unit {0}
+
+abbrev pub HaveFormedOrigins : List Deed → Type 0
+HaveFormedOrigins [] = Unit {0}
+HaveFormedOrigins (Keep e ∷ deeds) = HasFormedOrigin e × HaveFormedOrigins deeds
+HaveFormedOrigins (deed ∷ deeds) = HaveFormedOrigins deeds
 
 -- the fault is one of sending frames
 abbrev pub IsFaultOfSending : Fault → Type 0
@@ -141,6 +151,12 @@ IsFaultOf (Touch change) fault.Files = Unit {0}
 IsFaultOf (Begin key phase) fault.NoMemory = Unit {0}
 IsFaultOf (Go phase frames) told = IsFaultOfSending told
 IsFaultOf _ _ = ⊥
+
+-- the fault is one of asking for bytes
+abbrev pub IsFaultOfAsking : Fault → Type 0
+IsFaultOfAsking fault.Files = Unit {0}
+IsFaultOfAsking fault.NoMemory = Unit {0}
+IsFaultOfAsking _ = ⊥
 
 -- the deed changes no file
 abbrev pub IsNoTouch : Deed → Type 0
@@ -164,3 +180,20 @@ fault_of of_journal.Disk = fault.Disk
 fault_of (of_journal.Full len) = fault.JournalFull len
 fault_of (of_journal.Unfit at) = fault.NoMemory
 fault_of of_journal.NoMemory = fault.NoMemory
+
+-- the names in a frame are in their form; a row sends no frame of the other kinds
+abbrev pub HasNames : Message → Type 0
+HasNames (message.Hello greeting) = IsNodeName greeting.name
+HasNames (message.Welcome greeting) = IsNodeName greeting.name
+HasNames (message.StepCopyTo step name disp interval size) = IsNodeName step.pnode
+HasNames (message.StepCopyFrom step name interval) = IsNodeName step.pnode
+HasNames (message.Ready step offset) = IsNodeName step.pnode
+HasNames (message.Length step size) = IsNodeName step.pnode
+HasNames (message.Data step offset bytes) = IsNodeName step.pnode
+HasNames (message.Ack step offset) = IsNodeName step.pnode
+HasNames (message.End step size) = IsNodeName step.pnode
+HasNames (message.Result step outcomes) = IsNodeName step.pnode
+HasNames (message.Abort step cause) = IsNodeName step.pnode
+HasNames (message.Forget home number) = Unit {0}
+HasNames message.Bye = Unit {0}
+HasNames _ = ⊥

@@ -7,10 +7,11 @@ ghost use Rattle.cd_outside.specs.Lines.{NeverFell};
 ghost use Rattle.cd_outside.specs.Moments.{Moments};
 ghost use Rattle.cd_journal.specs.Journal.{length_of};
 ghost use Rattle.cd_moves.specs.Node.{Node};
+ghost use Rattle.cd_moves.specs.Rows.{are_allowed};
 ghost use Rattle.cd_moves.specs.Seen.{seen_deed};
 ghost use Rattle.cd_deeds.specs.Joint.{JointAt, IsWithin};
 ghost use Rattle.cd_deeds.specs.Registry.{IsRegistry};
-ghost use Rattle.cd_deeds.specs.Stands.{spot, Stands, WereDone, WereCut, AreReady};
+ghost use Rattle.cd_deeds.specs.Stands.{spot, Stands, WereDone, WereCut, HaveFormedOrigins};
 
 use crate::one::one;
 use crate::{Fault, Holders, Registry};
@@ -37,7 +38,8 @@ pub fn perform<T: Texts, D: Disk, F: Files, L: Lines>(
     deeds: Vec<Deed<'_>>,
     beat: &mut Beat,
 ) -> Result<(), Fault>
-    requires ready { AreReady T.read registry.old.entries (map seen_deed deeds.items) }
+    requires allowed { (now : ℕ) × (are_allowed T.read now registry.old.entries (map seen_deed deeds.items) ≡ true) }
+    requires origins { HaveFormedOrigins (map seen_deed deeds.items) }
     requires header { registry.old.journal.has_header ≡ true }
     requires sound { registry.old.journal.sound ≡ true }
     requires registry { D.told → IsRegistry registry.old (D.state disk.old) }

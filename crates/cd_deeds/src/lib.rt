@@ -2,16 +2,17 @@
 #![tactic(auto)]
 
 mod act;
+mod ask;
 mod deeds;
 mod fault;
 mod holders;
 mod one;
-
 mod registry;
 mod session;
 mod touch;
 
+pub use ask::{ask_bytes, ask_size};
+pub use deeds::perform;
 pub use fault::Fault;
 pub use holders::{Holders, Holding};
-pub use deeds::perform;
 pub use registry::Registry;

@@ -4,7 +4,7 @@ ghost use Rattle.cd_outside.specs.Counts.{Rose};
 ghost use Rattle.cd_outside.specs.Disk.{last_of, LeftAt};
 ghost use Rattle.cd_outside.specs.Moments.{Moments};
 ghost use Rattle.cd_journal.specs.Journal.{length_of};
-ghost use Rattle.cd_entries.specs.Entry.{entry_bytes, IsWritable};
+ghost use Rattle.cd_entries.specs.Entry.{entry_bytes, IsEntry, IsWritable};
 ghost use Rattle.cd_legal.specs.Legal.{allowed};
 ghost use Rattle.cd_moves.specs.Node.{Keep};
 ghost use Rattle.cd_book.specs.Book.{IsRead};
@@ -67,13 +67,10 @@ fn process_of<T: Texts>(
 }
 
 // Takes all the memory that it needs to record an entry, but for the journal's.
-fn prepare<T: Texts>(
-    alloc: Global,
-    book: &mut Book<T>,
-    entry: &Entry,
-) -> Result<Prepared, NoMemory>
+fn prepare<T: Texts>(alloc: Global, book: &mut Book<T>, entry: &Entry) -> Result<Prepared, NoMemory>
     requires { IsWritable entry.now }
     ensures body { IfOk result (λ ready. ready.body.items ≡ entry_bytes entry.now) }
+    ensures form { OnOk result (IsEntry entry.now) }
     ensures read { IfOk result (λ ready. IsRead T.read entry.now ready.process) }
     ensures room { OnOk result (book.new.room ≡ true) }
     ensures same { book.new.entries ≡ book.old.entries }
@@ -98,6 +95,24 @@ fn fault_of(fault: JournalFault) -> Fault
 }
 
 impl<T: Texts> Registry<T> {
+    /// The registry of a journal that was opened, and the book of its entries.
+    pub fn new(alloc: Global, journal: Journal, book: Book<T>) -> Self
+        ensures { result ≡ record { journal = journal; entries = book.entries } }
+    {
+        Registry {
+            alloc,
+            journal,
+            book,
+        }
+    }
+
+    /// Its journal.
+    pub fn journal(&self) -> &Journal
+        ensures { result.now ≡ self.now.journal }
+    {
+        &self.journal
+    }
+
     /// Its entries.
     pub fn book(&self) -> &Book<T>
         ensures { (result.now).entries ≡ self.now.entries }
@@ -118,7 +133,6 @@ impl<T: Texts> Registry<T> {
     ) -> Result<(), Fault>
         requires next { allowed T.read self.old.entries entry ≡ true }
         requires writable { IsWritable entry }
-        requires short { length (entry_bytes entry) ≤ 262144 }
         requires header { self.old.journal.has_header ≡ true }
         requires sound { self.old.journal.sound ≡ true }
         requires registry { P.told → IsRegistry self.old (P.state disk.old) }
@@ -151,6 +165,49 @@ impl<T: Texts> Registry<T> {
                 Ok(())
             }
             Err(fault) => Err(fault_of(fault)),
+        }
+    }
+}
+
+impl<T: Texts + Drop> Registry<T> {
+    ghost use Rattle.std.specs.Prelude.{[]};
+    ghost use Rattle.cd_outside.specs.Doubt.{settled};
+    ghost use Rattle.cd_journal.specs.Fault.{OnDisk, IfFull, IfUnfit};
+
+    /// Makes the journal of a disk without bytes. A stop within may leave any bytes, up to nine: the file is then deleted,
+    /// and made anew.
+    pub fn make<P: Disk>(
+        alloc: Global,
+        texts: T,
+        disk: &mut P,
+        beat: &mut Beat,
+    ) -> Result<Self, JournalFault>
+        requires empty { P.told → (P.state disk.old).seen ≡ [] }
+        requires rests { P.told → (P.state disk.old).doubt ≡ settled [] }
+        requires order { P.told → last_of (P.state disk.old).calls ≤ beat.old }
+        ensures registry { P.told → IfOk result (λ registry. IsRegistry registry (P.state disk.new)) }
+        ensures none { IfOk result (λ registry. registry.entries ≡ []) }
+        ensures sound { IfOk result (λ registry. registry.journal.sound ≡ true) }
+        ensures header { P.told → IfOk result (λ registry. registry.journal.has_header ≡ true) }
+        ensures moments { P.told → Moments (LeftAt (P.state disk.old)) (LeftAt (P.state disk.new)) beat.old (λ image. length image ≤ 9) }
+        ensures unfit { P.told → IfUnfit result (λ _. ⊥) }
+        ensures full { IfFull result (λ _. ⊥) }
+        ensures cause { OnDisk result (Rose (P.faults disk.old) (P.faults disk.new)) }
+        ensures order { P.told → last_of (P.state disk.new).calls ≤ beat.new }
+        ensures beat { beat.old ≤ beat.new }
+        ensures later { P.faults disk.old ≤ P.faults disk.new }
+    {
+        match Journal::create(disk, beat) {
+            Ok(()) => {}
+            Err(fault) => return Err(fault),
+        }
+        match Journal::open(alloc, disk, beat) {
+            Ok(journal) => Ok(Registry {
+                alloc,
+                journal,
+                book: Book::new(alloc, texts),
+            }),
+            Err(fault) => Err(fault),
         }
     }
 }

@@ -2,27 +2,50 @@
 ghost use Rattle.std.specs.Prelude.{◌≡◌, ◌≤◌, ◌<◌, ◌∷◌, length, map, Err, OnOk, OnErr, IfErr};
 ghost use Rattle.cd_outside.specs.Counts.{Rose};
 ghost use Rattle.cd_outside.specs.Lines.{sent, GaveFront, NeverFell};
-ghost use Rattle.cd_frames.specs.Frame.{frame_bytes, body_bytes, IsWritable};
+ghost use Rattle.cd_frames.specs.Frame.{frame_bytes, IsWritable};
 ghost use Rattle.cd_moves.specs.Seen.{seen_frame};
-ghost use Rattle.cd_deeds.specs.Stands.{gave, GaveSome, IsFaultOfSending, IsSendable, AreSendable};
+ghost use Rattle.cd_types.specs.NodeName.{IsNodeName};
+ghost use Rattle.cd_deeds.specs.Stands.{gave, GaveSome, IsFaultOfSending, AreSendable, HasNames};
 
 use crate::{Fault, Holders, Holding};
 use cd_frames::write_frame;
 use cd_moves::{Outgoing, Phase};
 use cd_outside::{Lines, Sid};
-use cd_types::Key;
+use cd_types::{Key, NodeName};
 use std::alloc::Global;
 
+// A node's name has its form wherever it stands, so no frame is longer than frames may be.
+fn see_name(name: &NodeName)
+    ensures { IsNodeName name.now }
+{
+    let _ = name.as_bytes();
+}
+
+fn see_names(frame: &Outgoing<'_>)
+    ensures { HasNames (seen_frame frame.now) }
+{
+    match frame {
+        Outgoing::Hello(hello) => see_name(&hello.name),
+        Outgoing::Welcome(welcome) => see_name(&welcome.name),
+        Outgoing::StepCopyTo(key, ..) => see_name(&key.pnode),
+        Outgoing::StepCopyFrom(key, ..) => see_name(&key.pnode),
+        Outgoing::Ready(key, _) => see_name(&key.pnode),
+        Outgoing::Length(key, _) => see_name(&key.pnode),
+        Outgoing::Data(key, ..) => see_name(&key.pnode),
+        Outgoing::Ack(key, _) => see_name(&key.pnode),
+        Outgoing::End(key, _) => see_name(&key.pnode),
+        Outgoing::Result(key, _) => see_name(&key.pnode),
+        Outgoing::Abort(key, _) => see_name(&key.pnode),
+        Outgoing::Forget(..) => {}
+        Outgoing::Bye => {}
+    }
+}
+
 // Sends one frame.
-fn send<L: Lines>(
-    alloc: Global,
-    lines: &mut L,
-    sid: Sid,
-    frame: &Outgoing<'_>,
-) -> Result<(), Fault>
+fn send<L: Lines>(alloc: Global, lines: &mut L, sid: Sid, frame: &Outgoing<'_>) -> Result<(), Fault>
     requires from { 1 ≤ sid.number }
     requires to { sid.number ≤ L.last lines.old }
-    requires ready { IsSendable (seen_frame frame.now) }
+    requires ready { IsWritable (seen_frame frame.now) }
     ensures sent { L.told → OnOk result (L.traffic lines.new ≡ sent sid.number (frame_bytes (seen_frame frame.now)) (L.traffic lines.old)) }
     ensures front { L.told → OnErr result (GaveFront sid.number (frame_bytes (seen_frame frame.now)) (L.traffic lines.old) (L.traffic lines.new)) }
     ensures fault { IfErr result IsFaultOfSending }
@@ -30,6 +53,7 @@ fn send<L: Lines>(
     ensures later { NeverFell (L.counts lines.old) (L.counts lines.new) }
     ensures cause { result ≡ Err Fault.Line → Rose ((L.counts lines.old).faults sid.number) ((L.counts lines.new).faults sid.number) }
 {
+    see_names(frame);
     let mut bytes = Vec::new(alloc);
     match write_frame(&frame.frame(), &mut bytes) {
         Ok(()) => {}
@@ -103,16 +127,16 @@ pub(crate) fn begin(
     holders: &mut Holders,
     sid: Sid,
     key: Key,
-    next: Phase,
+    under_way: Phase,
 ) -> Result<(), Fault>
-    ensures phase { OnOk result (phase.new ≡ next) }
+    ensures phase { OnOk result (phase.new ≡ under_way) }
     ensures held { OnOk result (holders.new ≡ (record { key = key; sid = sid }) ∷ holders.old) }
     ensures same { OnErr result ((phase.new ≡ phase.old) × (holders.new ≡ holders.old)) }
     ensures fault { IfErr result (λ fault. fault ≡ Fault.NoMemory) }
 {
     match holders.hold(Holding { key, sid }) {
         Ok(()) => {
-            *phase = next;
+            *phase = under_way;
             Ok(())
         }
         Err(_) => Err(Fault::NoMemory),

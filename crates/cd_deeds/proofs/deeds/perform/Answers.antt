@@ -6,6 +6,7 @@ use Rattle.cd_moves.specs.Seen.{seen_deed}
 use Rattle.cd_deeds.specs.Joint.{JointAt}
 use Rattle.cd_deeds.specs.Stands.{spot}
 use Rattle.cd_deeds.proofs.Doing.{row_none}
+use Rattle.cd_deeds.proofs.Ready.{ready_of}
 use Rattle.cd_deeds.proofs.Rows.{done_none, row_run, behind, deeds_split, ready_here, kept_here, done_here, cut_here}
 use Rattle.cd_deeds.proofs.Sending.{fell_then, fell_none}
 use Rattle.cd_deeds.proofs.deeds.perform.Goals as goal
@@ -33,7 +34,7 @@ one-requires-clause-ready g c =
     let so_far = YieldsList-so_far road c.loop-deed.yielded c.loop-deed.deed-iterator c.loop-deed.yielded_by in
     let turn = YieldsList-turn road c.loop-deed.yielded c.loop-deed.deed-iterator c.loop-deed.yielded_by c.next.result c.next.new.self c.in-Some.deed c.in-Some.is c.next.ensures.steps in
     let split = deeds_split c.args.deeds.items c.loop-deed.yielded c.in-Some.deed so_far turn in
-    ready_here g.T.Texts.read c.args.deeds.items c.loop-deed.yielded c.in-Some.deed c.args.registry.now.entries c.loop-deed.registry.entries split c.requires.ready c.loop-deed.invariant.entries
+    ready_here g.T.Texts.read c.args.deeds.items c.loop-deed.yielded c.in-Some.deed c.args.registry.now.entries c.loop-deed.registry.entries split (ready_of g.T.Texts.read c.requires.allowed.0 c.args.registry.now.entries (map seen_deed c.args.deeds.items) c.requires.allowed.1 c.requires.origins) c.loop-deed.invariant.entries
 
 pub loop-deed-preserved : goal.loop-deed-preserved
 loop-deed-preserved g c =
@@ -88,8 +89,8 @@ returns-in-Err-clause-moments g c = λ told files_told node is.
     let split = deeds_split c.args.deeds.items c.loop-deed.yielded c.in-Some.deed so_far turn in
     let i = c.loop-deed.invariant in
     row_run c.args.sid.number (map seen_deed c.args.deeds.items) (map seen_deed c.loop-deed.yielded) (behind c.args.deeds.items c.loop-deed.yielded) (seen_deed c.in-Some.deed) node
-          (JointAt (g.D.Disk.state c.args.disk.now) (g.F.Files.state c.args.files.now))
-          (JointAt (g.D.Disk.state c.loop-deed.disk) (g.F.Files.state c.loop-deed.files))
-          (JointAt (g.D.Disk.state c.one.new.disk) (g.F.Files.state c.one.new.files))
-          c.args.beat.now c.loop-deed.beat split i.beat (i.moments told files_told node is)
-          (c.one.ensures.moments told files_told (does c.args.sid.number (map seen_deed c.loop-deed.yielded) node) (i.done.node node is))
+    (JointAt (g.D.Disk.state c.args.disk.now) (g.F.Files.state c.args.files.now))
+    (JointAt (g.D.Disk.state c.loop-deed.disk) (g.F.Files.state c.loop-deed.files))
+    (JointAt (g.D.Disk.state c.one.new.disk) (g.F.Files.state c.one.new.files))
+    c.args.beat.now c.loop-deed.beat split i.beat (i.moments told files_told node is)
+    (c.one.ensures.moments told files_told (does c.args.sid.number (map seen_deed c.loop-deed.yielded) node) (i.done.node node is))
