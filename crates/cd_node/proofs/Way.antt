@@ -1,8 +1,7 @@
 -- A row that is done part by part.
-use Rattle.std.proofs.Common.{◌≡◌, ℕ, zero, suc, ◌+◌, ◌≤◌, Bool, true, false, cond, List, [], ◌∷◌, ◌++◌, Option, None, refl, sym, ◌∙◌, ap, subst, append_assoc, arith}
+use Rattle.std.proofs.Common.{◌≡◌, ℕ, zero, suc, ◌+◌, ◌-◌, ◌<◌, ◌≤◌, Bool, true, false, cond, List, [], ◌∷◌, ◌++◌, Option, None, refl, sym, ◌∙◌, ap, subst, append_assoc, arith}
 use Rattle.std.proofs.lemmas.List.{append-nil}
-use Rattle.std.proofs.lemmas.Bool.{cond-true, cond-false}
-use Rattle.cd_outside.specs.Lines.{Traffic, sent}
+use Rattle.cd_outside.specs.Lines.{Traffic, sent, LineCounts, NeverFell}
 use Rattle.cd_outside.specs.Shelf.{Shelf}
 use Rattle.cd_frames.specs.Frame.{frame_bytes}
 use Rattle.cd_frames.specs.Message.{Message}
@@ -246,3 +245,45 @@ module _ (files_told lines_told : Type 0) (setting : Setting) (read : Reading) (
       → files_told → (node : Node) → IsSo files_told setting read sid node before → AreTold whole node sid given first
   unfolding AreTold
   way_out_told then_what given after way t node is = way.told t node is given (agrees_self given (rank then_what)) tt
+
+  -- one turn more, of so many
+  pub way_next : (turn : ℕ) (then_what later : Then) (earlier given : Answers) (middle after : Spot) → turn < whole → is_done then_what ≡ false
+      → IsAnswered (question_of (desk_with setting read middle.entries) then_what) earlier given
+      → (files_told → IsTold middle.shelf (question_of (desk_with setting read middle.entries) then_what) given)
+      → WereDone files_told lines_told sid (part_at (desk_with setting read middle.entries) middle.phase given then_what).deeds middle after
+      → later ≡ (part_at (desk_with setting read middle.entries) middle.phase given then_what).later
+      → IsOnItsWay files_told lines_told setting read sid whole (whole - turn) first then_what earlier before middle
+      → IsOnItsWay files_told lines_told setting read sid whole (whole - (turn + 1)) first later given before after
+  way_next turn then_what later earlier given middle after lt goes answered tells then_done is way =
+      let one : whole - turn ≡ suc (whole - (turn + 1)) = omega (arith, lt) in
+      subst (λ (t : Then). IsOnItsWay files_told lines_told setting read sid whole (whole - (turn + 1)) first t given before after) (sym is)
+      (way_more (whole - (turn + 1)) then_what earlier given middle after goes answered tells then_done
+      (subst (λ (n : ℕ). IsOnItsWay files_told lines_told setting read sid whole n first then_what earlier before middle) one way))
+
+  -- all turns were taken
+  pub way_over : (turn : ℕ) (then_what : Then) (given : Answers) (after : Spot) → whole ≤ turn
+      → IsOnItsWay files_told lines_told setting read sid whole (whole - turn) first then_what given before after
+      → IsOnItsWay files_told lines_told setting read sid whole zero first then_what given before after
+  way_over turn then_what given after ge way =
+      let none : whole - turn ≡ 0 = omega (arith, ge) in
+      subst (λ (n : ℕ). IsOnItsWay files_told lines_told setting read sid whole n first then_what given before after) none way
+
+-- Counts over two runs.
+
+pub fell_then : (first middle last : LineCounts) → NeverFell first middle → NeverFell middle last → NeverFell first last
+fell_then first middle last one two = record {
+  faults = λ session. omega (arith, one.faults session, two.faults session);
+  connects = omega (arith, one.connects, two.connects);
+  accepts = omega (arith, one.accepts, two.accepts);
+  ends = λ session. omega (arith, one.ends session, two.ends session);
+  nones = omega (arith, one.nones, two.nones);
+}
+
+pub fell_none : (counts : LineCounts) → NeverFell counts counts
+fell_none counts = record {
+  faults = λ session. omega arith;
+  connects = omega arith;
+  accepts = omega arith;
+  ends = λ session. omega arith;
+  nones = omega arith;
+}

@@ -66,11 +66,11 @@ pub(crate) fn go_on<T: Texts, R: Rules<T>, D: Disk, F: Files, L: Lines>(
 
     // What is done.
     ensures done { OnOk result ((node : Node) → IsSo F.told (R.setting rules.now) T.read sid.number node (spot registry.old.entries (F.state files.old).shelf phase.old holders.old (L.traffic lines.old))
-        → WereDone F.told L.told sid.number (rest most_parts node sid.number (answers_of now given.new buffer.new.items) then.entry)
+        → WereDone F.told L.told sid.number (rest most_parts node sid.number (answers_of now given.new buffer.new.items) then)
         (spot registry.old.entries (F.state files.old).shelf phase.old holders.old (L.traffic lines.old))
         (spot registry.new.entries (F.state files.new).shelf phase.new holders.new (L.traffic lines.new))) }
     ensures told { F.told → OnOk result ((node : Node) → IsSo F.told (R.setting rules.now) T.read sid.number node (spot registry.old.entries (F.state files.old).shelf phase.old holders.old (L.traffic lines.old))
-        → AreTold most_parts node sid.number (answers_of now given.new buffer.new.items) then.entry) }
+        → AreTold most_parts node sid.number (answers_of now given.new buffer.new.items) then) }
 
     // What stands then.
     ensures legal { OnOk result (is_legal T.read registry.new.entries ≡ true) }
@@ -94,7 +94,7 @@ pub(crate) fn go_on<T: Texts, R: Rules<T>, D: Disk, F: Files, L: Lines>(
     ensures lines_later { NeverFell (L.counts lines.old) (L.counts lines.new) }
 {
     let mut later = then;
-    for _turn in 0..1030 {
+    for _turn in 0..1030_u32 {
         if is_done(&later) {
             return Ok(());
         }
