@@ -67,7 +67,7 @@ kept_fits : (read : Reading) (now : ℕ) (journal : List Entry) (e : Entry) (dee
 kept_fits read now journal e deeds fits rest = and_from (may_record read now journal e) _ fits rest
 
 -- each part of a row whose entries may follow leaves a legal journal
-part_legal : (sid now : ℕ) (done more : List Deed) (node : Node) → is_legal node.desk.config.read node.desk.journal ≡ true
+pub part_legal : (sid now : ℕ) (done more : List Deed) (node : Node) → is_legal node.desk.config.read node.desk.journal ≡ true
     → are_allowed node.desk.config.read now node.desk.journal (done ++ more) ≡ true → is_legal node.desk.config.read (does sid done node).desk.journal ≡ true
 part_legal sid now [] more node legal fits = legal
 part_legal sid now (Keep e ∷ done) more node legal fits =
@@ -80,7 +80,7 @@ part_legal sid now (Begin key phase ∷ done) more node legal fits = part_legal 
 part_legal sid now (Go phase frames ∷ done) more node legal fits = part_legal sid now done more (did sid (Go phase frames) node) legal (and_parts (list_all is_sendable frames) _ fits).1
 
 -- one without a later moment
-part_on_time : (sid now : ℕ) (done more : List Deed) (node : Node) → latest node.desk.journal ≤ now
+pub part_on_time : (sid now : ℕ) (done more : List Deed) (node : Node) → latest node.desk.journal ≤ now
     → are_allowed node.desk.config.read now node.desk.journal (done ++ more) ≡ true → latest (does sid done node).desk.journal ≤ now
 part_on_time sid now [] more node early fits = early
 part_on_time sid now (Keep e ∷ done) more node early fits =
@@ -236,14 +236,14 @@ module _ (desk : Desk) (priorities : HavePriorities desk.config.read) (legal : i
   end_fits None = refl
   end_fits (Some n) = retry_fits n (placing desk.journal n) (Go Gone []) refl refl (λ _. refl)
 
-  close_fits : (phase : Phase) → are_allowed desk.config.read now desk.journal (close desk now phase) ≡ true
+  pub close_fits : (phase : Phase) → are_allowed desk.config.read now desk.journal (close desk now phase) ≡ true
   close_fits phase = end_fits (own_number phase)
 
-  trouble_fits : (phase : Phase) → are_allowed desk.config.read now desk.journal (trouble desk now phase) ≡ true
+  pub trouble_fits : (phase : Phase) → are_allowed desk.config.read now desk.journal (trouble desk now phase) ≡ true
   trouble_fits phase = and_from (list_all is_sendable (trouble_for (key_under_way phase))) _ (trouble_sends (key_under_way phase)) (close_fits phase)
 
   -- a part whose entries may follow, or else the end
-  checked_fits : (phase : Phase) (part : Part) → are_allowed desk.config.read now desk.journal (checked desk now phase part).deeds ≡ true
+  pub checked_fits : (phase : Phase) (part : Part) → are_allowed desk.config.read now desk.journal (checked desk now phase part).deeds ≡ true
   checked_fits phase part =
       elim (cases_Bool (are_allowed desk.config.read now desk.journal part.deeds)) [
         | inl fits ↦ subst (λ (chosen : Part). are_allowed desk.config.read now desk.journal chosen.deeds ≡ true) (sym (cond-true (are_allowed desk.config.read now desk.journal part.deeds) part (only (close desk now phase)) fits)) fits
@@ -298,7 +298,7 @@ stays sid now node deeds legal early fits done more split =
       on_time = part_on_time sid now done more node early parts;
     }
 
-first_fits : (desk : Desk) (sessions : Sessions) → HavePriorities desk.config.read → (sid now : ℕ) (m : Message)
+pub first_fits : (desk : Desk) (sessions : Sessions) → HavePriorities desk.config.read → (sid now : ℕ) (m : Message)
     → is_legal desk.config.read desk.journal ≡ true → latest desk.journal ≤ now → are_allowed desk.config.read now desk.journal (first_part desk sessions now sid m).deeds ≡ true
 first_fits desk sessions priorities sid now m legal early =
     elim (is_dead desk (own_number (sessions.phase sid)) || is_detached sessions sid (key_under_way (sessions.phase sid))) as (λ b. are_allowed desk.config.read now desk.journal (cond b (only (close desk now (sessions.phase sid))) (checked desk now (sessions.phase sid) (part_in desk sessions now sid m (sessions.phase sid)))).deeds ≡ true) [

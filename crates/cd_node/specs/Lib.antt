@@ -1,2 +1,4 @@
+pub mod Going
+pub mod Question
 pub mod Rest
 pub mod RestLaw

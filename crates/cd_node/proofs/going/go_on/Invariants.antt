@@ -1,0 +1,30 @@
+use Rattle.std.proofs.Common.{◌≡◌, ◌≤◌, ◌-◌, true}
+use Rattle.cd_outside.specs.Disk.{last_of}
+use Rattle.cd_outside.specs.Files.{files_last_of}
+use Rattle.cd_outside.specs.Lines.{NeverFell}
+use Rattle.cd_status.specs.Processes.{latest}
+use Rattle.cd_legal.specs.Legal.{is_legal}
+use Rattle.cd_deeds.specs.Registry.{IsRegistry}
+use Rattle.cd_deeds.specs.Stands.{spot}
+use Rattle.cd_node.specs.Going.{IsOnItsWay}
+use Rattle.cd_node.specs.Question.{answers_of}
+use Rattle.cd_node.proofs.going.go_on.Given as goal
+
+abbrev pub invariant-loop-turn : goal.invariant-loop-turn
+invariant-loop-turn g l = record {
+  way : IsOnItsWay g.F.Files.told g.L.Lines.told (g.R.Rules.setting l.fn.rules) g.T.Texts.read l.fn.sid.number 1030 (1030 - l._turn) l.fn.then l.later (answers_of l.fn.now l.given l.buffer.items)
+      (spot l.fn.registry.entries (g.F.Files.state l.fn.files).shelf l.fn.phase l.fn.holders (g.L.Lines.traffic l.fn.lines))
+      (spot l.registry.entries (g.F.Files.state l.files).shelf l.phase l.holders (g.L.Lines.traffic l.lines));
+  legal : is_legal g.T.Texts.read l.registry.entries ≡ true;
+  on_time : latest l.registry.entries ≤ l.fn.now;
+  registry : g.D.Disk.told → IsRegistry l.registry (g.D.Disk.state l.disk);
+  header : l.registry.journal.has_header ≡ true;
+  sound : l.registry.journal.sound ≡ true;
+  order : g.D.Disk.told → last_of (g.D.Disk.state l.disk).calls ≤ l.beat;
+  files_order : g.F.Files.told → files_last_of (g.F.Files.state l.files).calls ≤ l.beat;
+  beat : l.fn.beat ≤ l.beat;
+  last : g.L.Lines.last l.lines ≡ g.L.Lines.last l.fn.lines;
+  disk_later : g.D.Disk.faults l.fn.disk ≤ g.D.Disk.faults l.disk;
+  files_later : g.F.Files.faults l.fn.files ≤ g.F.Files.faults l.files;
+  lines_later : NeverFell (g.L.Lines.counts l.fn.lines) (g.L.Lines.counts l.lines);
+}

@@ -1,0 +1,37 @@
+-- What is left of a row while it is done, part by part.
+use Rattle.std.specs.Prelude.{◌≡◌, ℕ, zero, suc, List, ◌++◌, Bool, true, false}
+use Rattle.cd_outside.specs.Shelf.{Shelf}
+use Rattle.cd_legal.specs.Steps.{Reading}
+use Rattle.cd_moves.specs.declared.session.Then.{Then}
+use Rattle.cd_moves.specs.Node.{Node, Deed, does, Answers}
+use Rattle.cd_moves.specs.Rows.{is_done}
+use Rattle.cd_deeds.specs.Stands.{Spot, Stands, WereDone}
+use Rattle.cd_node.specs.Question.{Setting, config_with, question_of, IsTold}
+use Rattle.cd_node.specs.Rest.{part_after, rest, rank, Agrees}
+
+-- where there is nothing left to ask, nothing is said
+abbrev pub Unless : Bool → Type 0 → Type 0
+Unless true P = Unit {0}
+Unless false P = P
+
+-- each answer of what is left of a row is what the files hold where it is asked for
+unfoldable pub AreTold : ℕ → Node → ℕ → Answers → Then → Type 0
+AreTold zero node sid answers then_what = Unit {0}
+AreTold (suc more) node sid answers then_what =
+    Unless (is_done then_what) (IsTold node.shelf (question_of node.desk then_what) answers
+    × AreTold more (does sid (part_after node sid answers then_what).deeds node) sid answers (part_after node sid answers then_what).later)
+
+-- A node that stands so is set up so.
+pub record IsSo (told : Type 0) (setting : Setting) (read : Reading) (sid : ℕ) (node : Node) (at : Spot) : Type 0 where
+  pub config : node.desk.config ≡ config_with setting read
+  pub stands : Stands told sid node at
+
+-- A first part of what is left of a row was done: for each node that stood so, and for all answers that agree with those that
+-- were given, that part and what is left behind it are the whole.
+pub record IsOnItsWay (files_told lines_told : Type 0) (setting : Setting) (read : Reading) (sid whole left : ℕ) (first then_what : Then) (given : Answers) (before after : Spot) : Type 0 where
+  pub done : List Deed
+  pub was : WereDone files_told lines_told sid done before after
+  pub row : (node : Node) → IsSo files_told setting read sid node before → (answers : Answers) → Agrees answers given (rank then_what)
+      → rest whole node sid answers first ≡ done ++ rest left (does sid done node) sid answers then_what
+  pub told : files_told → (node : Node) → IsSo files_told setting read sid node before → (answers : Answers) → Agrees answers given (rank then_what)
+      → AreTold left (does sid done node) sid answers then_what → AreTold whole node sid answers first

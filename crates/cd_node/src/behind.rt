@@ -1,0 +1,108 @@
+//! The part that comes behind another one.
+ghost use Rattle.std.specs.Prelude.{◌≡◌, ◌≢◌, ◌≤◌, ℕ, true, Err, OnOk, IfOk, IfErr};
+ghost use Rattle.cd_outside.specs.Counts.{Rose};
+ghost use Rattle.cd_outside.specs.Disk.{last_of};
+ghost use Rattle.cd_outside.specs.Files.{files_last_of};
+ghost use Rattle.cd_outside.specs.Lines.{NeverFell};
+ghost use Rattle.cd_journal.specs.Journal.{length_of};
+ghost use Rattle.cd_status.specs.Processes.{latest};
+ghost use Rattle.cd_legal.specs.Legal.{is_legal};
+ghost use Rattle.cd_legal.specs.Promises.{HavePriorities};
+ghost use Rattle.cd_deeds.specs.Registry.{IsRegistry};
+ghost use Rattle.cd_deeds.specs.Stands.{spot, WereDone};
+ghost use Rattle.cd_node.specs.Question.{desk_with, question_of, answers_of, IsAnswered, IsTold, part_at};
+
+use crate::asking::ask;
+use crate::given::Given;
+use crate::rules::Rules;
+use cd_book::Texts;
+use cd_deeds::{Fault, Holders, Registry, perform};
+use cd_moves::{Part, Phase, Then};
+use cd_outside::{Beat, Disk, Files, Lines, Sid};
+use cd_types::Moment;
+use std::alloc::Global;
+
+/// Does the part that comes behind another one, and answers what comes behind it: asks the files what it goes by, and does its
+/// deeds.
+pub(crate) fn go_behind<T: Texts, R: Rules<T>, D: Disk, F: Files, L: Lines>(
+    alloc: Global,
+    rules: &R,
+    registry: &mut Registry<T>,
+    phase: &mut Phase,
+    holders: &mut Holders,
+    sid: Sid,
+    now: Moment,
+    disk: &mut D,
+    files: &mut F,
+    lines: &mut L,
+    then: &Then,
+    given: &mut Given,
+    buffer: &mut Vec<u8>,
+    beat: &mut Beat,
+) -> Result<Then, Fault>
+    requires priorities { HavePriorities T.read }
+    requires legal { is_legal T.read registry.old.entries ≡ true }
+    requires on_time { latest registry.old.entries ≤ now }
+    requires header { registry.old.journal.has_header ≡ true }
+    requires sound { registry.old.journal.sound ≡ true }
+    requires registry { D.told → IsRegistry registry.old (D.state disk.old) }
+    requires order { D.told → last_of (D.state disk.old).calls ≤ beat.old }
+    requires files_order { F.told → files_last_of (F.state files.old).calls ≤ beat.old }
+    requires from { 1 ≤ sid.number }
+    requires to { sid.number ≤ L.last lines.old }
+
+    // What is done.
+    ensures answered { OnOk result (IsAnswered (question_of (desk_with (R.setting rules.now) T.read registry.old.entries) then.now) (answers_of now given.old buffer.old.items) (answers_of now given.new buffer.new.items)) }
+    ensures told { F.told → OnOk result (IsTold (F.state files.old).shelf (question_of (desk_with (R.setting rules.now) T.read registry.old.entries) then.now) (answers_of now given.new buffer.new.items)) }
+    ensures done { OnOk result (WereDone F.told L.told sid.number
+        (part_at (desk_with (R.setting rules.now) T.read registry.old.entries) phase.old (answers_of now given.new buffer.new.items) then.now).deeds
+        (spot registry.old.entries (F.state files.old).shelf phase.old holders.old (L.traffic lines.old))
+        (spot registry.new.entries (F.state files.new).shelf phase.new holders.new (L.traffic lines.new))) }
+    ensures later { IfOk result (λ later. later ≡ (part_at (desk_with (R.setting rules.now) T.read registry.old.entries) phase.old (answers_of now given.new buffer.new.items) then.now).later) }
+
+    // What stands then.
+    ensures legal { OnOk result (is_legal T.read registry.new.entries ≡ true) }
+    ensures on_time { OnOk result (latest registry.new.entries ≤ now) }
+    ensures registry { D.told → result ≢ Err Fault.Disk → IsRegistry registry.new (D.state disk.new) }
+    ensures header { registry.new.journal.has_header ≡ true }
+    ensures sound { result ≢ Err Fault.Disk → registry.new.journal.sound ≡ true }
+    ensures full { (len : ℕ) → result ≡ Err (Fault.JournalFull len) → length_of registry.new.journal ≡ len }
+
+    // Why it fails.
+    ensures disk { result ≡ Err Fault.Disk → Rose (D.faults disk.old) (D.faults disk.new) }
+    ensures files { result ≡ Err Fault.Files → Rose (F.faults files.old) (F.faults files.new) }
+    ensures line { result ≡ Err Fault.Line → Rose ((L.counts lines.old).faults sid.number) ((L.counts lines.new).faults sid.number) }
+
+    ensures order { D.told → last_of (D.state disk.new).calls ≤ beat.new }
+    ensures files_order { F.told → files_last_of (F.state files.new).calls ≤ beat.new }
+    ensures beat { beat.old ≤ beat.new }
+    ensures last { L.last lines.new ≡ L.last lines.old }
+    ensures disk_later { D.faults disk.old ≤ D.faults disk.new }
+    ensures files_later { F.faults files.old ≤ F.faults files.new }
+    ensures lines_later { NeverFell (L.counts lines.old) (L.counts lines.new) }
+{
+    match ask(files, rules.asked(registry.book(), then), given, buffer) {
+        Ok(()) => {}
+        Err(fault) => return Err(fault),
+    }
+    match rules.part_behind(
+        alloc,
+        registry.book(),
+        now,
+        phase,
+        given,
+        buffer.as_slice(),
+        then,
+    ) {
+        Ok(part) => {
+            let Part { deeds, later } = part;
+            match perform(
+                alloc, registry, phase, holders, sid, disk, files, lines, deeds, beat,
+            ) {
+                Ok(()) => Ok(later),
+                Err(fault) => Err(fault),
+            }
+        }
+        Err(_) => Err(Fault::NoMemory),
+    }
+}

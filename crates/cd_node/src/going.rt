@@ -1,0 +1,110 @@
+//! All that comes behind a part.
+ghost use Rattle.std.specs.Prelude.{◌≡◌, ◌≢◌, ◌≤◌, ℕ, true, Err, OnOk};
+ghost use Rattle.cd_outside.specs.Counts.{Rose};
+ghost use Rattle.cd_outside.specs.Disk.{last_of};
+ghost use Rattle.cd_outside.specs.Files.{files_last_of};
+ghost use Rattle.cd_outside.specs.Lines.{NeverFell};
+ghost use Rattle.cd_journal.specs.Journal.{length_of};
+ghost use Rattle.cd_status.specs.Processes.{latest};
+ghost use Rattle.cd_legal.specs.Legal.{is_legal};
+ghost use Rattle.cd_legal.specs.Promises.{HavePriorities};
+ghost use Rattle.cd_moves.specs.Node.{Node};
+ghost use Rattle.cd_moves.specs.Rows.{is_done, most_parts};
+ghost use Rattle.cd_deeds.specs.Registry.{IsRegistry};
+ghost use Rattle.cd_deeds.specs.Stands.{spot, WereDone};
+ghost use Rattle.cd_node.specs.Going.{AreTold, IsSo};
+ghost use Rattle.cd_node.specs.Question.{answers_of};
+ghost use Rattle.cd_node.specs.Rest.{rest};
+
+use crate::behind::go_behind;
+use crate::given::Given;
+use crate::rules::Rules;
+use cd_book::Texts;
+use cd_deeds::{Fault, Holders, Registry};
+use cd_moves::{Phase, Then};
+use cd_outside::{Beat, Disk, Files, Lines, Sid};
+use cd_types::Moment;
+use std::alloc::Global;
+
+// Whether nothing comes any more.
+fn is_done(then: &Then) -> bool
+    ensures { result ≡ is_done then.now }
+{
+    match then {
+        Then::Done => true,
+        _ => false,
+    }
+}
+
+/// Does all that comes behind a part, one part after another.
+pub(crate) fn go_on<T: Texts, R: Rules<T>, D: Disk, F: Files, L: Lines>(
+    alloc: Global,
+    rules: &R,
+    registry: &mut Registry<T>,
+    phase: &mut Phase,
+    holders: &mut Holders,
+    sid: Sid,
+    now: Moment,
+    disk: &mut D,
+    files: &mut F,
+    lines: &mut L,
+    then: Then,
+    given: &mut Given,
+    buffer: &mut Vec<u8>,
+    beat: &mut Beat,
+) -> Result<(), Fault>
+    requires priorities { HavePriorities T.read }
+    requires legal { is_legal T.read registry.old.entries ≡ true }
+    requires on_time { latest registry.old.entries ≤ now }
+    requires header { registry.old.journal.has_header ≡ true }
+    requires sound { registry.old.journal.sound ≡ true }
+    requires registry { D.told → IsRegistry registry.old (D.state disk.old) }
+    requires order { D.told → last_of (D.state disk.old).calls ≤ beat.old }
+    requires files_order { F.told → files_last_of (F.state files.old).calls ≤ beat.old }
+    requires from { 1 ≤ sid.number }
+    requires to { sid.number ≤ L.last lines.old }
+
+    // What is done.
+    ensures done { OnOk result ((node : Node) → IsSo F.told (R.setting rules.now) T.read sid.number node (spot registry.old.entries (F.state files.old).shelf phase.old holders.old (L.traffic lines.old))
+        → WereDone F.told L.told sid.number (rest most_parts node sid.number (answers_of now given.new buffer.new.items) then)
+        (spot registry.old.entries (F.state files.old).shelf phase.old holders.old (L.traffic lines.old))
+        (spot registry.new.entries (F.state files.new).shelf phase.new holders.new (L.traffic lines.new))) }
+    ensures told { F.told → OnOk result ((node : Node) → IsSo F.told (R.setting rules.now) T.read sid.number node (spot registry.old.entries (F.state files.old).shelf phase.old holders.old (L.traffic lines.old))
+        → AreTold most_parts node sid.number (answers_of now given.new buffer.new.items) then) }
+
+    // What stands then.
+    ensures legal { OnOk result (is_legal T.read registry.new.entries ≡ true) }
+    ensures on_time { OnOk result (latest registry.new.entries ≤ now) }
+    ensures registry { D.told → result ≢ Err Fault.Disk → IsRegistry registry.new (D.state disk.new) }
+    ensures header { registry.new.journal.has_header ≡ true }
+    ensures sound { result ≢ Err Fault.Disk → registry.new.journal.sound ≡ true }
+    ensures full { (len : ℕ) → result ≡ Err (Fault.JournalFull len) → length_of registry.new.journal ≡ len }
+
+    // Why it fails.
+    ensures disk { result ≡ Err Fault.Disk → Rose (D.faults disk.old) (D.faults disk.new) }
+    ensures files { result ≡ Err Fault.Files → Rose (F.faults files.old) (F.faults files.new) }
+    ensures line { result ≡ Err Fault.Line → Rose ((L.counts lines.old).faults sid.number) ((L.counts lines.new).faults sid.number) }
+
+    ensures order { D.told → last_of (D.state disk.new).calls ≤ beat.new }
+    ensures files_order { F.told → files_last_of (F.state files.new).calls ≤ beat.new }
+    ensures beat { beat.old ≤ beat.new }
+    ensures last { L.last lines.new ≡ L.last lines.old }
+    ensures disk_later { D.faults disk.old ≤ D.faults disk.new }
+    ensures files_later { F.faults files.old ≤ F.faults files.new }
+    ensures lines_later { NeverFell (L.counts lines.old) (L.counts lines.new) }
+{
+    let mut later = then;
+    for _turn in 0..1030_u32 {
+        if is_done(&later) {
+            return Ok(());
+        }
+        match go_behind(
+            alloc, rules, registry, phase, holders, sid, now, disk, files, lines, &later, given, buffer,
+            beat,
+        ) {
+            Ok(behind) => later = behind,
+            Err(fault) => return Err(fault),
+        }
+    }
+    Ok(())
+}

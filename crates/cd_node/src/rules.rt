@@ -1,0 +1,48 @@
+//! What the rules say, as a program computes it.
+ghost use Rattle.std.specs.Prelude.{◌≡◌, map, IfOk};
+ghost use Rattle.cd_moves.specs.Seen.{seen_deed, seen_part};
+ghost use Rattle.cd_deeds.specs.Stands.{HaveFormedOrigins};
+ghost use Rattle.cd_node.specs.Question.{Setting, desk_with, seen_question, question_of, answers_of, part_at};
+
+use crate::given::Given;
+use cd_book::{Book, Texts};
+use cd_moves::{Part, Phase, Then};
+use cd_types::{Moment, NoMemory};
+use std::alloc::Global;
+
+/// What is asked of the files.
+#[derive(Clone, Copy, Debug)]
+pub enum Question<'a> {
+    /// Nothing.
+    Nothing,
+    /// The length of a destination.
+    Destination(&'a [u8]),
+    /// The length of a source.
+    Source(&'a [u8]),
+    /// Bytes of a source: from a place on, so many.
+    Bytes(&'a [u8], u64, u32),
+}
+
+/// What the rules say of a node, over the book of its journal. Nothing here calls a device.
+pub trait Rules<T: Texts> {
+    /// What the node is set up with.
+    ghost setting: { Self → Setting };
+
+    /// What is asked before the part that comes behind.
+    fn asked<'a>(&self, book: &'a Book<T>, then: &'a Then) -> Question<'a>
+        ensures { seen_question result ≡ question_of (desk_with (setting self.now) T.read (book.now).entries) then.now };
+
+    /// The part that comes behind another one, by what the files told. It submits nothing of another Process.
+    fn part_behind<'a>(
+        &self,
+        alloc: Global,
+        book: &Book<T>,
+        now: Moment,
+        phase: &Phase,
+        given: &Given,
+        bytes: &'a [u8],
+        then: &Then,
+    ) -> Result<Part<'a>, NoMemory>
+        ensures part { IfOk result (λ part. seen_part part ≡ part_at (desk_with (setting self.now) T.read (book.now).entries) phase.now (answers_of now given.now bytes.now) then.now) }
+        ensures origins { IfOk result (λ part. HaveFormedOrigins (map seen_deed part.deeds.items)) };
+}
