@@ -1,0 +1,4 @@
+pub mod Weights
+pub mod Grows
+pub mod Lengths
+pub mod Symbols
