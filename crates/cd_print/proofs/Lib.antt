@@ -4,3 +4,4 @@ pub mod Lengths
 pub mod Symbols
 pub mod Cuts
 pub mod Tails
+pub mod Words
