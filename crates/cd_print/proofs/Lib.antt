@@ -5,3 +5,5 @@ pub mod Symbols
 pub mod Cuts
 pub mod Tails
 pub mod Words
+pub mod Fronts
+pub mod Lines

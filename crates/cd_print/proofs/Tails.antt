@@ -53,7 +53,7 @@ module _ (P : List Token → Type 0) (before : PieceKind) (side : Side) where
     read = λ at. subst P (sym (ap (λ (ps : List Piece). without_commas side (tokens_from at ps)) e ∙ ap (λ (ts : List Token). without_commas side ts) (gap_tokens piece (pieces_after 0 piece.kind rest) at e3))) (r.read (at + length piece.bytes));
   }
 
-  by_token : (text rest : List ℕ) (piece : Piece) (t : ℕ → Token) (next : Side) → pieces_after 0 before text ≡ piece ∷ pieces_after 0 piece.kind rest → flaw_in piece.kind ≡ None → is_token piece.kind ≡ true
+  pub by_token : (text rest : List ℕ) (piece : Piece) (t : ℕ → Token) (next : Side) → pieces_after 0 before text ≡ piece ∷ pieces_after 0 piece.kind rest → flaw_in piece.kind ≡ None → is_token piece.kind ≡ true
       → ((at : ℕ) → seen_token piece.kind at piece.bytes ≡ t at) → ((at : ℕ) → is_blank_comma side (t at) ≡ false) → ((at : ℕ) → behind side (t at) ≡ next) → ((at : ℕ) → Reads (λ ts. P (t at ∷ ts)) piece.kind next rest) → Reads P before side text
   by_token text rest piece t next e e2 e3 seen kept goes r = record {
     clean = λ at. ap (λ (ps : List Piece). open_from at ps) e ∙ gap_clean piece (pieces_after 0 piece.kind rest) e2 (r 0).clean at;
