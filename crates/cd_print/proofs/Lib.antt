@@ -7,3 +7,4 @@ pub mod Tails
 pub mod Words
 pub mod Fronts
 pub mod Lines
+pub mod Said

@@ -81,7 +81,7 @@ unfolding sign_of
 sign_comma = refl
 
 -- what follows a =
-quote_other : (body rest : List ℕ) → begins_equal (quote_of body ++ rest) ≡ false
+pub quote_other : (body rest : List ℕ) → begins_equal (quote_of body ++ rest) ≡ false
 quote_other body rest = go (list_any (λ b. b == 34) body)
   where
     go : (t : Bool) → begins_equal ((if t then 39 ∷ [] else 34 ∷ []) ++ rest) ≡ false
@@ -106,7 +106,7 @@ first_is : (a b : Bool) → (a && b) ≡ true → a ≡ true
 first_is true b e = refl
 first_is false b e = absurd cc
 
-plain_other : (before : PieceKind) (w rest : List ℕ) → list_all is_plain w ≡ true → begins_well before w ≡ true → begins_equal (w ++ rest) ≡ false
+pub plain_other : (before : PieceKind) (w rest : List ℕ) → list_all is_plain w ≡ true → begins_well before w ≡ true → begins_equal (w ++ rest) ≡ false
 plain_other before [] rest e e2 = absurd cc
 plain_other before (b ∷ w) rest e e2 = plain_byte b (first_is (is_plain b) _ e)
 
