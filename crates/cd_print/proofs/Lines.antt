@@ -34,8 +34,9 @@ use Rattle.cd_grammar.specs.declared.token.Token.{Token}
 use Rattle.cd_grammar.specs.declared.token.Token.TheVariants.{Word, Quoted, Mark}
 use Rattle.cd_grammar.specs.Tokens.{Side, Out, Named, Opening, In, behind_word, behind_sign, is_blank_comma}
 use Rattle.cd_grammar.specs.Words.{key_of, sign_of, said_in}
+use Rattle.cd_print.specs.Printable.{is_quotable}
 use Rattle.cd_print.proofs.Cuts.{is_plain, begins_well, stops, begins_equal, piece_is}
-use Rattle.cd_print.proofs.Tails.{Reads, onward, on_blank, on_line, on_word, on_inner, on_sign, on_quote, on_quoted, is_quotable, is_outside, by_token}
+use Rattle.cd_print.proofs.Tails.{Reads, onward, on_blank, on_line, on_word, on_inner, on_sign, on_quote, on_quoted, is_outside, by_token}
 use Rattle.cd_print.proofs.Words.{word_outside}
 use Rattle.cd_print.proofs.Fronts.{quoted}
 

@@ -53,9 +53,10 @@ use Rattle.cd_grammar.specs.Tokens.{Side, Out, Named, Opening, In, behind_word, 
 use Rattle.cd_grammar.specs.Values.{number_in, interval_in, symbol_in, file_in, node_in, is_command, disp_in, restart_in}
 use Rattle.cd_grammar.specs.Words.{key_of, sign_of, said_in}
 use Rattle.cd_machine.specs.Ranges.{passes, within, is_interval}
+use Rattle.cd_print.specs.Printable.{is_quotable, is_symbol_name, are_symbols, with_all, IsQuotable}
 use Rattle.cd_print.proofs.Cuts.{is_plain, begins_well, stops, begins_equal}
-use Rattle.cd_print.proofs.Tails.{Reads, onward, on_blank, on_line, on_word, on_quoted, is_quotable, is_outside}
-use Rattle.cd_print.proofs.Words.{word_outside, label_read, front_read, fits_taken, labels_plain, label_begins, nodes_plain, node_begins, number_digits, digits_plain, digits_begin, all_by}
+use Rattle.cd_print.proofs.Tails.{Reads, onward, on_blank, on_line, on_word, on_quoted, is_outside}
+use Rattle.cd_print.proofs.Words.{word_outside, label_read, front_read, fits_taken, labels_plain, label_begins, nodes_plain, node_begins, number_digits, digits_plain, digits_begin, all_by, alnums_plain}
 use Rattle.cd_print.proofs.Fronts.{quoted, interval_word, ckpt_front, snode_front, prty_front, symbols_front, work_word, restart_front, what_front, label_front}
 use Rattle.cd_print.proofs.Lines.{on_close, on_equals, on_open, on_pair, on_text, on_relation, plain_other}
 
@@ -564,3 +565,102 @@ module _ (values : PrintedValues) (Q : Reading → Type 0) where
       onward (λ ts found. (found.0, g.eif ends2 room open2 found.1, found.2))
       (next _ step.Between _ _ _ refl (empty_follows before None a1 sketch.Eif what.Eif more tt) refl)
       )
+
+  symbol_read : (name : List ℕ) → is_symbol_name name ≡ true → symbol_in (38 ∷ name) ≡ Fits name
+  unfolding symbol_in
+  symbol_read name e = rw e refl
+
+  symbol_plain : (name : List ℕ) → is_symbol_name name ≡ true → list_all is_plain (38 ∷ name) ≡ true
+  unfolding is_word_byte is_blank is_quote is_sign_byte
+  symbol_plain name e = alnums_plain name (second_is (nat_le 1 (length name) && nat_le (length name) 17) _ e)
+
+  symbols_line : (r : Reading) (begun : Begun) (given : Given) (pairs : List (List ℕ × List ℕ)) (kind : PieceKind) (side : Side) (rest : List ℕ) → is_outside side ≡ true → are_symbols pairs ≡ true
+      → ((kind2 : PieceKind) (side2 : Side) → is_outside side2 ≡ true → Reads (Ends Q (g.At (record r { symbols = with_all r.symbols pairs }) (step.Submit begun given))) kind2 side2 (10 ∷ rest))
+      → Reads (Ends Q (g.At r (step.Submit begun given))) kind side (symbols_front pairs (10 ∷ rest))
+  unfolding is_word_byte is_blank is_quote is_sign_byte
+  symbols_line r begun given [] kind side rest out fits next = next kind side out
+  symbols_line r begun given (pair ∷ pairs) kind side rest out fits next =
+      let here : (is_symbol_name pair.0 && is_quotable pair.1) ≡ true = first_is _ (are_symbols pairs) fits in
+      let name : is_symbol_name pair.0 ≡ true = first_is _ (is_quotable pair.1) here in
+      on_blank _ kind side (
+      on_text _ piece.Blank side (38 ∷ pair.0) (key_of (38 ∷ pair.0)) pair.1 out refl (symbol_plain pair.0 name) refl refl (second_is (is_symbol_name pair.0) _ here) (λ a1 a2 a3.
+      onward (λ ts found. (found.0, g.symbol refl (fits_taken _ pair.0 (symbol_read pair.0 name)) refl found.1, found.2))
+      (symbols_line (record r { symbols = with_symbol r.symbols (upper_case pair.0) pair.1 }) begun given pairs piece.Quoted Out rest refl (second_is (is_symbol_name pair.0 && is_quotable pair.1) _ fits) next)
+      ))
+
+  symbols_stop : (pairs : List (List ℕ × List ℕ)) (rest : List ℕ) → stops (symbols_front pairs (10 ∷ rest)) ≡ true
+  unfolding is_word_byte is_blank is_quote is_sign_byte
+  symbols_stop [] rest = refl
+  symbols_stop (pair ∷ pairs) rest = refl
+
+  prty_stop : (o : Option ℕ) (rest : List ℕ) → stops rest ≡ true → stops (prty_front o rest) ≡ true
+  unfolding is_word_byte is_blank is_quote is_sign_byte
+  prty_stop None rest e = e
+  prty_stop (Some n) rest e = refl
+
+  pub snode_stop : (o : Option (List ℕ)) (rest : List ℕ) → stops rest ≡ true → stops (snode_front o rest) ≡ true
+  unfolding is_word_byte is_blank is_quote is_sign_byte
+  snode_stop None rest e = e
+  snode_stop (Some name) rest e = refl
+
+  abbrev submit_given : SubmitStep → Option (List ℕ) → Option ℕ → Given
+  submit_given submit snode prty = record nothing { file = Some submit.file; side = Some submit.side; snode = snode; prty = prty }
+
+  prty_line : (r : Reading) (begun : Begun) (submit : SubmitStep) (snode : Option (List ℕ)) (o : Option ℕ) (kind : PieceKind) (side : Side) (rest : List ℕ) → is_outside side ≡ true → passes (within 1 15) o ≡ true → stops rest ≡ true
+      → ((kind2 : PieceKind) (side2 : Side) → is_outside side2 ≡ true → Reads (Ends Q (g.At r (step.Submit begun (submit_given submit snode o)))) kind2 side2 rest)
+      → Reads (Ends Q (g.At r (step.Submit begun (submit_given submit snode None)))) kind side (prty_front o rest)
+  unfolding is_word_byte is_blank is_quote is_sign_byte slot_of submit_slot has
+  prty_line r begun submit snode None kind side rest out fits e next = next kind side out
+  prty_line r begun submit snode (Some n) kind side rest out fits e next =
+      let read : number_in 1 15 (decimal n) ≡ Fits n = values.numbers 1 15 n (up_to 1 n (first_is _ (nat_le n 15) fits)) (up_to n 15 (second_is (nat_le 1 n) _ fits)) (omega arith) in
+      let digits : (list_all is_ascii_digit (decimal n) ≡ true) × (1 ≤ length (decimal n)) = number_digits 1 15 n (decimal n) read in
+      on_blank _ kind side (
+      on_pair _ piece.Blank side (codes "PRTY") key.Prty (decimal n) out key_prty refl refl refl (digits_plain (decimal n) digits.0) (digits_begin piece.Sign (decimal n) digits.0 digits.1) e (λ a1 a2 a3.
+      onward (λ ts found. (found.0, g.param refl refl (prty_given (submit_given submit snode None) a1 a3 n (key_of (decimal n)) (decimal n) read) found.1, found.2))
+      (next piece.Word _ (word_outside (key_of (decimal n))))
+      ))
+
+  snode_line : (r : Reading) (begun : Begun) (submit : SubmitStep) (o : Option (List ℕ)) (kind : PieceKind) (side : Side) (rest : List ℕ) → is_outside side ≡ true → passes is_node_name o ≡ true → stops rest ≡ true
+      → ((kind2 : PieceKind) (side2 : Side) → is_outside side2 ≡ true → Reads (Ends Q (g.At r (step.Submit begun (submit_given submit o None)))) kind2 side2 rest)
+      → Reads (Ends Q (g.At r (step.Submit begun (submit_given submit None None)))) kind side (snode_front o rest)
+  unfolding is_word_byte is_blank is_quote is_sign_byte slot_of submit_slot has
+  snode_line r begun submit None kind side rest out fits e next = next kind side out
+  snode_line r begun submit (Some name) kind side rest out fits e next =
+      on_blank _ kind side (
+      on_pair _ piece.Blank side (codes "SNODE") key.Snode name out key_snode refl refl refl (nodes_plain name fits) (node_begins name fits) e (λ a1 a2 a3.
+      onward (λ ts found. (found.0, g.param refl refl (snode_given (submit_given submit None None) a1 a3 (key_of name) name fits) found.1, found.2))
+      (next piece.Word _ (word_outside (key_of name)))
+      ))
+
+  submit_follows : (before : Reading) (label : Option (ℕ × List ℕ)) (at : ℕ) (submit : SubmitStep) (symbols : List (List ℕ × List ℕ)) → symbols ≡ submit.symbols
+      → Follows before (label_in_it label) (what.Submit submit) before.ifs (stored (record before { symbols = symbols }) (begun_at label at) sketch.Action (what.Submit (record submit { symbols = symbols })))
+  submit_follows before label at submit symbols e = record {
+    name = refl;
+    head = refl;
+    stmts = ap (λ (x : List (List ℕ × List ℕ)). before.stmts ++ record { label = label_in_it label; what = what.Submit (record submit { symbols = x }) } ∷ []) e;
+    symbols = refl;
+    ifs = refl;
+    mark = record { label = label; at = at; what = sketch.Action };
+    marks = refl;
+    labelled = refl;
+    sketched = tt;
+  }
+
+  all_from : (symbols : List (List ℕ × List ℕ)) (submit : SubmitStep) → symbols ≡ [] → with_all [] submit.symbols ≡ submit.symbols → with_all symbols submit.symbols ≡ submit.symbols
+  all_from symbols submit e e2 = ap (λ (x : List (List ℕ × List ℕ)). with_all x submit.symbols) e ∙ e2
+
+  submit_line : (p : Place) (label : Option (ℕ × List ℕ)) (before : Reading) (submit : SubmitStep) (kind : PieceKind) (side : Side) (rest : List ℕ) → opening p ≡ Some (label, before) → has_room strict before ≡ true → before.symbols ≡ [] → is_outside side ≡ true
+      → is_file_name submit.file ≡ true → passes is_node_name submit.snode ≡ true → passes (within 1 15) submit.prty ≡ true → IsQuotable (what.Submit submit)
+      → Next Q before label (what.Submit submit) before.ifs rest → Reads (Ends Q p) kind side (what_front (what.Submit submit) (10 ∷ rest))
+  unfolding is_word_byte is_blank is_quote is_sign_byte slot_of submit_slot has ended
+  submit_line p label before submit kind side rest opens room none out fits fits2 fits3 q next =
+      on_word _ kind side (codes "SUBMIT") key.Submit out key_submit refl refl refl (λ a1. on_blank _ _ _ (
+      on_text _ _ _ (codes "FILE") key.File submit.file refl key_file refl refl refl q.0 (λ a2 a3 a4. on_blank _ _ _ (
+      on_pair _ _ _ (codes "SUBNODE") key.Subnode (side_word submit.side) refl key_subnode refl refl refl (side_plain submit.side) (side_begins piece.Sign submit.side) (snode_stop submit.snode _ (prty_stop submit.prty _ (symbols_stop submit.symbols rest))) (λ a5 a6 a7.
+      onward (λ ts found. (found.0, g.submit opens room (g.param refl refl (file_given nothing a2 a4 submit.file fits) (g.param refl refl (side_given (record nothing { file = Some submit.file }) a5 a7 submit.side) found.1)), found.2))
+      (snode_line before (begun_at label a1) submit submit.snode piece.Word _ _ (word_outside (key_of (side_word submit.side))) fits2 (prty_stop submit.prty _ (symbols_stop submit.symbols rest)) (λ kind2 side2 out2.
+      prty_line before (begun_at label a1) submit submit.snode submit.prty kind2 side2 _ out2 fits3 (symbols_stop submit.symbols rest) (λ kind3 side3 out3.
+      symbols_line before (begun_at label a1) (submit_given submit submit.snode submit.prty) submit.symbols kind3 side3 rest out3 q.1 (λ kind4 side4 out4.
+      next (record before { symbols = with_all before.symbols submit.symbols }) (step.Submit (begun_at label a1) (submit_given submit submit.snode submit.prty)) _ kind4 side4 refl (submit_follows before label a1 submit (with_all before.symbols submit.symbols) (all_from before.symbols submit none q.2)) out4
+      )))
+      ))))))

@@ -15,6 +15,7 @@ use Rattle.cd_grammar.specs.declared.token.Token.{Token}
 use Rattle.cd_grammar.specs.declared.token.Token.TheVariants.{Word, Quoted, Mark}
 use Rattle.cd_grammar.specs.Tokens.{Side, Out, Named, Opening, In, behind, behind_word, behind_sign, is_blank_comma, is_comma, inside, seen_token, without_commas}
 use Rattle.cd_grammar.specs.Words.{key_of, sign_of}
+use Rattle.cd_print.specs.Printable.{is_quotable}
 use Rattle.cd_print.proofs.Cuts.{tokens_from, blank_piece, line_piece, sign_piece, quoted_piece, word_piece, is_lone_sign, begins_equal, is_quote_byte, has_byte, inside_is, is_plain, begins_well, stops}
 
 -- the tokens of a text behind a piece, from a place on, as the grammar sees them
@@ -118,9 +119,10 @@ module _ (P : List Token → Type 0) (before : PieceKind) (side : Side) where
       by_token P before side (q ∷ (body ++ q ∷ rest)) rest (record { kind = piece.Quoted; bytes = q ∷ (body ++ q ∷ []) }) (λ at. Quoted at body) Out (quoted_piece before q body rest is none) refl refl
       (λ at. ap (λ (x : List ℕ). Quoted at x) (inside_is q body)) (λ at. refl) (λ at. quoted_side side at body out) r
 
--- a text without both quotes
-abbrev pub is_quotable : List ℕ → Bool
-is_quotable body = not (has_byte 34 body && has_byte 39 body)
+-- the end of a text
+pub on_end : (P : List Token → Type 0) (before : PieceKind) (side : Side) → P [] → Reads P before side []
+unfolding pieces_after open_from tokens_from without_commas
+on_end P before side p = record { clean = λ at. refl; read = λ at. p }
 
 module _ (P : List Token → Type 0) (before : PieceKind) (side : Side) where
   by_quote : (t : Bool) (body : List ℕ) {rest : List ℕ} → has_byte 34 body ≡ t → is_outside side ≡ true → not (t && has_byte 39 body) ≡ true

@@ -269,3 +269,9 @@ digits_plain word e = all_by is_ascii_digit is_plain word digit_plain e
 pub digits_begin : (before : PieceKind) (word : List ℕ) → list_all is_ascii_digit word ≡ true → 1 ≤ length word → begins_well before word ≡ true
 digits_begin before [] e some = absurd (omega arith)
 digits_begin before (b ∷ word) e some = not_dash is_ascii_digit before b (first_is (is_ascii_digit b) _ e) refl
+
+alnum_plain : (b : ℕ) → is_ascii_alphanumeric b ≡ true → is_plain b ≡ true
+alnum_plain b e = plain_by is_ascii_alphanumeric b e refl refl refl refl refl refl refl refl refl refl refl refl refl refl refl
+
+pub alnums_plain : (w : List ℕ) → list_all is_ascii_alphanumeric w ≡ true → list_all is_plain w ≡ true
+alnums_plain w e = all_by is_ascii_alphanumeric is_plain w alnum_plain e
