@@ -1,0 +1,10 @@
+pub mod Weights
+pub mod Grows
+pub mod Lengths
+pub mod Symbols
+pub mod Cuts
+pub mod Tails
+pub mod Words
+pub mod Fronts
+pub mod Lines
+pub mod Said
