@@ -439,7 +439,7 @@ module _ (values : PrintedValues) (Q : Reading → Type 0) where
       onward (λ ts found. (
         found.0,
         g.copy opens room (g.group refl refl (g.param refl refl (file_given nothing a4 a6 copy.from fits) (g.side refl (source_read copy.push) refl (g.group_end refl
-        (g.group refl refl (g.param refl refl (file_given nothing a11 a13 copy.to fits2) (g.side refl (target_read copy.push) refl (g.param refl refl (disp_given (record nothing { file = Some copy.to; side = Some (tgt copy.push) }) a15 a17 (key_of (disp_word copy.disp)) copy.disp) (g.group_end refl found.1))))))))),
+            (g.group refl refl (g.param refl refl (file_given nothing a11 a13 copy.to fits2) (g.side refl (target_read copy.push) refl (g.param refl refl (disp_given (record nothing { file = Some copy.to; side = Some (tgt copy.push) }) a15 a17 (key_of (disp_word copy.disp)) copy.disp) (g.group_end refl found.1))))))))),
         found.2,
       ))
       (ckpt_line before (begun_at label a1) copy copy.ckpt piece.Sign Out rest fits3 refl
