@@ -1,2 +1,3 @@
+mod FirstPart
 mod Parts
 mod Way

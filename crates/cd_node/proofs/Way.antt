@@ -11,13 +11,13 @@ use Rattle.cd_moves.specs.declared.session.Phase.{Phase}
 use Rattle.cd_moves.specs.declared.session.Then.{Then}
 use Rattle.cd_moves.specs.declared.session.Then.TheVariants.{Done, Next, Undo, Push, Offered, Onto, Piece}
 use Rattle.cd_moves.specs.Node.{Config, Desk, Node, Deed, Keep, Touch, AskSize, AskBytes, Begin, Go, Part, Answers, did, does, sends}
-use Rattle.cd_moves.specs.Rows.{checked, part_behind, asked, is_done}
+use Rattle.cd_moves.specs.Rows.{checked, part_behind, asked, is_done, all_parts}
 use Rattle.cd_moves.specs.RowsLaw.{same_config}
 use Rattle.cd_deeds.specs.Stands.{Spot, Stands, gave, WereDone}
 use Rattle.cd_node.specs.Going.{Unless, AreTold, IsSo, IsOnItsWay}
 use Rattle.cd_node.specs.Question.{Setting, config_with, desk_with, Question, Nothing, Destination, Source, Bytes, question_of, IsAnswered, IsTold, part_at}
 use Rattle.cd_node.specs.Rest.{part_after, rest, rank, rank_behind, Agrees}
-use Rattle.cd_node.specs.RestLaw.{after_rank, rest_step, rest_done}
+use Rattle.cd_node.specs.RestLaw.{parts_rest, after_rank, rest_step, rest_done}
 use Rattle.cd_node.proofs.Parts.{node_at}
 
 does_then : (sid : ℕ) (first second : List Deed) (node : Node) → does sid (first ++ second) node ≡ does sid second (does sid first node)
@@ -134,7 +134,7 @@ told_agrees shelf desk (Piece role talk key source offset) answers given is told
 
 -- The way.
 
-desk_is : (setting : Setting) (read : Reading) (entries : List Entry) (desk : Desk) → desk.config ≡ config_with setting read → desk.journal ≡ entries → desk ≡ desk_with setting read entries
+pub desk_is : (setting : Setting) (read : Reading) (entries : List Entry) (desk : Desk) → desk.config ≡ config_with setting read → desk.journal ≡ entries → desk ≡ desk_with setting read entries
 desk_is setting read entries desk config journal =
     ap (λ (c : Config). record { config = c; journal = desk.journal }) config ∙ ap (λ (es : List Entry). record { config = config_with setting read; journal = es }) journal
 
@@ -287,3 +287,23 @@ fell_none counts = record {
   ends = λ session. omega arith;
   nones = omega arith;
 }
+
+-- A part, and what is left behind it.
+
+pub so_behind : (files_told lines_told : Type 0) (setting : Setting) (read : Reading) (sid : ℕ) (deeds : List Deed) (before middle : Spot) → WereDone files_told lines_told sid deeds before middle
+    → (node : Node) → IsSo files_told setting read sid node before → IsSo files_told setting read sid (does sid deeds node) middle
+so_behind files_told lines_told setting read sid deeds before middle done node is = record { config = same_config sid deeds node ∙ is.config; stands = done.node node is.stands }
+
+pub parts_done : (files_told lines_told : Type 0) (setting : Setting) (read : Reading) (sid more : ℕ) (part : Part) (given : Answers) (before middle after : Spot) → WereDone files_told lines_told sid part.deeds before middle
+    → ((node : Node) → IsSo files_told setting read sid node middle → WereDone files_told lines_told sid (rest more node sid given part.later) middle after)
+    → (node : Node) → IsSo files_told setting read sid node before → WereDone files_told lines_told sid (all_parts more node sid given part) before after
+parts_done files_told lines_told setting read sid more part given before middle after one others node is =
+    subst (λ (deeds : List Deed). WereDone files_told lines_told sid deeds before after) (sym (parts_rest more node sid given part))
+    (done_then files_told lines_told sid part.deeds (rest more (does sid part.deeds node) sid given part.later) before middle after one
+    (others (does sid part.deeds node) (so_behind files_told lines_told setting read sid part.deeds before middle one node is)))
+
+pub parts_told : (files_told lines_told : Type 0) (setting : Setting) (read : Reading) (sid more : ℕ) (part : Part) (given : Answers) (before middle : Spot) → WereDone files_told lines_told sid part.deeds before middle
+    → ((node : Node) → IsSo files_told setting read sid node middle → AreTold more node sid given part.later)
+    → (node : Node) → IsSo files_told setting read sid node before → AreTold more (does sid part.deeds node) sid given part.later
+parts_told files_told lines_told setting read sid more part given before middle one others node is =
+    others (does sid part.deeds node) (so_behind files_told lines_told setting read sid part.deeds before middle one node is)

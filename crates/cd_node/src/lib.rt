@@ -3,12 +3,18 @@
 
 mod asking;
 mod behind;
+mod frame;
 mod given;
 mod going;
 mod law;
+mod row;
 mod rules;
+mod session;
 
 pub use asking::ask;
+pub use frame::on_frame;
 pub use given::Given;
 pub use law::law_of_rests;
+pub use row::go_all;
 pub use rules::{Question, Rules};
+pub use session::Session;

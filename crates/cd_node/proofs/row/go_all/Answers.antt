@@ -1,0 +1,42 @@
+use Rattle.std.proofs.Common.{◌≡◌, Err, map, ap}
+use Rattle.cd_moves.specs.Rows.{most_parts}
+use Rattle.cd_moves.specs.Seen.{seen_deed, seen_part}
+use Rattle.cd_deeds.specs.Stands.{spot}
+use Rattle.cd_deeds.specs.declared.fault.Fault.{Fault}
+use Rattle.cd_deeds.specs.declared.fault.Fault.TheVariants as fault
+use Rattle.cd_node.specs.Question.{answers_of}
+use Rattle.cd_node.proofs.Parts.{done_legal, done_on_time}
+use Rattle.cd_node.proofs.Way.{parts_done, parts_told}
+use Rattle.cd_node.proofs.row.go_all.Goals as goal
+
+pub go_on-requires-clause-legal : goal.go_on-requires-clause-legal
+go_on-requires-clause-legal g c =
+    done_legal (g.R.Rules.setting c.args.rules.now) g.T.Texts.read c.requires.priorities c.args.now g.F.Files.told g.L.Lines.told c.args.sid.number (map seen_deed c.args.part.deeds.items)
+    (spot c.args.registry.now.entries (g.F.Files.state c.args.files.now).shelf c.args.phase.now c.args.holders.now (g.L.Lines.traffic c.args.lines.now))
+    (spot c.perform.new.registry.entries (g.F.Files.state c.perform.new.files).shelf c.perform.new.phase c.perform.new.holders (g.L.Lines.traffic c.perform.new.lines))
+    c.requires.legal c.requires.allowed c.in-Ok.ensures.done
+
+pub go_on-requires-clause-on_time : goal.go_on-requires-clause-on_time
+go_on-requires-clause-on_time g c =
+    done_on_time (g.R.Rules.setting c.args.rules.now) g.T.Texts.read c.requires.priorities c.args.now g.F.Files.told g.L.Lines.told c.args.sid.number (map seen_deed c.args.part.deeds.items)
+    (spot c.args.registry.now.entries (g.F.Files.state c.args.files.now).shelf c.args.phase.now c.args.holders.now (g.L.Lines.traffic c.args.lines.now))
+    (spot c.perform.new.registry.entries (g.F.Files.state c.perform.new.files).shelf c.perform.new.phase c.perform.new.holders (g.L.Lines.traffic c.perform.new.lines))
+    c.requires.on_time c.requires.allowed c.in-Ok.ensures.done
+
+pub returns-in-Ok-go_on-clause-done : goal.returns-in-Ok-go_on-clause-done
+returns-in-Ok-go_on-clause-done g c =
+    parts_done g.F.Files.told g.L.Lines.told (g.R.Rules.setting c.args.rules.now) g.T.Texts.read c.args.sid.number most_parts (seen_part c.args.part) (answers_of c.args.now c.go_on.new.given c.go_on.new.buffer.items)
+    (spot c.args.registry.now.entries (g.F.Files.state c.args.files.now).shelf c.args.phase.now c.args.holders.now (g.L.Lines.traffic c.args.lines.now))
+    (spot c.perform.new.registry.entries (g.F.Files.state c.perform.new.files).shelf c.perform.new.phase c.perform.new.holders (g.L.Lines.traffic c.perform.new.lines))
+    (spot c.go_on.new.registry.entries (g.F.Files.state c.go_on.new.files).shelf c.go_on.new.phase c.go_on.new.holders (g.L.Lines.traffic c.go_on.new.lines))
+    c.in-Ok.ensures.done c.in-Ok-go_on.ensures.done
+
+pub returns-in-Ok-go_on-clause-told : goal.returns-in-Ok-go_on-clause-told
+returns-in-Ok-go_on-clause-told g c = λ told.
+    parts_told g.F.Files.told g.L.Lines.told (g.R.Rules.setting c.args.rules.now) g.T.Texts.read c.args.sid.number most_parts (seen_part c.args.part) (answers_of c.args.now c.go_on.new.given c.go_on.new.buffer.items)
+    (spot c.args.registry.now.entries (g.F.Files.state c.args.files.now).shelf c.args.phase.now c.args.holders.now (g.L.Lines.traffic c.args.lines.now))
+    (spot c.perform.new.registry.entries (g.F.Files.state c.perform.new.files).shelf c.perform.new.phase c.perform.new.holders (g.L.Lines.traffic c.perform.new.lines))
+    c.in-Ok.ensures.done (c.in-Ok-go_on.ensures.told told)
+
+pub returns-in-Err-clause-registry : goal.returns-in-Err-clause-registry
+returns-in-Err-clause-registry g c = λ told other. c.in-Err.ensures.registry told (λ h. let is : c.in-Err.fault ≡ fault.Disk = cc in other (ap (λ (f : Fault). Err f) is))
