@@ -1,5 +1,5 @@
 -- The first part of what is done about a frame.
-use Rattle.std.proofs.Common.{◌≡◌, ℕ, ◌≤◌, true, List, [], Option, sym, ◌∙◌, ap, subst}
+use Rattle.std.proofs.Common.{◌≡◌, inl, ℕ, ◌≤◌, true, List, [], Option, refl, sym, ◌∙◌, ap, subst}
 use Rattle.cd_types.specs.declared.key.Key.{Key}
 use Rattle.cd_entries.specs.declared.entry.Entry.{Entry}
 use Rattle.cd_frames.specs.Message.{Message}
@@ -12,9 +12,10 @@ use Rattle.cd_moves.specs.Node.{Desk, Node, Deed, Part, Answers, does}
 use Rattle.cd_moves.specs.Rows.{are_allowed, first_part, all_parts, most_parts, row}
 use Rattle.cd_moves.specs.RowsLaw.{first_fits}
 use Rattle.cd_deeds.specs.declared.holders.Holding.{Holding}
-use Rattle.cd_deeds.specs.Stands.{Spot, Stands, WereDone}
+use Rattle.cd_deeds.specs.Stands.{Spot, Stands, WereDone, IsFaultOfAsking}
+use Rattle.cd_deeds.specs.declared.fault.Fault.{Fault}
 use Rattle.cd_node.specs.declared.session.Session.{Session}
-use Rattle.cd_node.specs.Going.{AreTold, IsSo}
+use Rattle.cd_node.specs.Going.{AreTold, IsSo, WereStopped, RowStopped}
 use Rattle.cd_node.specs.Question.{Setting, desk_with}
 use Rattle.cd_node.specs.Sessions.{sessions_with, IsAt}
 use Rattle.cd_node.proofs.Way.{desk_is}
@@ -53,3 +54,23 @@ module _ (files_told lines_told : Type 0) (setting : Setting) (read : Reading) (
       → AreTold most_parts (does sid (first_part node.desk node.sessions answers.now sid m).deeds node) sid answers (first_part node.desk node.sessions answers.now sid m).later
   frame_told before same made told node is =
       subst (λ (p : Part). AreTold most_parts (does sid p.deeds node) sid answers p.later) (first_is node before is same made) (told node is.so)
+
+  pub frame_stopped : (now : ℕ) (fault : Fault) (before after : Spot) → answers.now ≡ now → book ≡ before.entries → IsFirst setting read book now sid before.phase others before.holdings m part
+      → RowStopped files_told lines_told sid now fault (λ node given. all_parts most_parts node sid given part) (λ node. IsSo files_told setting read sid node before) before after
+      → RowStopped files_told lines_told sid now fault (λ node given. row node sid given m) (λ node. IsAt files_told setting read sid others node before) before after
+  frame_stopped now fault before after at same made stop = record {
+    answers = stop.answers;
+    moment = stop.moment;
+    stopped = λ node is. subst (λ (p : Part). WereStopped files_told lines_told sid (all_parts most_parts node sid stop.answers p) fault before after)
+        (subst (λ (n : ℕ). part ≡ first_part node.desk node.sessions n sid m) (at ∙ sym stop.moment) (first_is node before is same (subst (λ (n : ℕ). IsFirst setting read book n sid before.phase others before.holdings m part) (sym at) made)))
+        (stop.stopped node is.so);
+  }
+
+-- nothing of the row was done
+pub frame_left : (files_told lines_told : Type 0) (setting : Setting) (read : Reading) (sid now : ℕ) (others : List Session) (m : Message) (answers : Answers) (fault : Fault) (at : Spot) → answers.now ≡ now → IsFaultOfAsking fault
+    → RowStopped files_told lines_told sid now fault (λ node given. row node sid given m) (λ node. IsAt files_told setting read sid others node at) at at
+frame_left files_told lines_told setting read sid now others m answers fault at moment cause = record {
+  answers = answers;
+  moment = moment;
+  stopped = λ node is. inl (record { done = []; more = row node sid answers m; parts = refl; first = record { node = λ n so. so; traffic = λ t. refl }; cause = cause });
+}

@@ -1,5 +1,5 @@
 //! What is done about a frame.
-ghost use Rattle.std.specs.Prelude.{◌≡◌, ◌≢◌, ◌≤◌, ℕ, true, Err, OnOk, IfOk};
+ghost use Rattle.std.specs.Prelude.{◌≡◌, ◌≢◌, ◌≤◌, ℕ, true, Err, OnOk, IfOk, IfErr};
 ghost use Rattle.cd_outside.specs.Counts.{Rose};
 ghost use Rattle.cd_outside.specs.Disk.{last_of};
 ghost use Rattle.cd_outside.specs.Files.{files_last_of};
@@ -13,7 +13,7 @@ ghost use Rattle.cd_moves.specs.Node.{Node, does};
 ghost use Rattle.cd_moves.specs.Rows.{first_part, most_parts, row};
 ghost use Rattle.cd_deeds.specs.Registry.{IsRegistry};
 ghost use Rattle.cd_deeds.specs.Stands.{spot, WereDone};
-ghost use Rattle.cd_node.specs.Going.{AreTold};
+ghost use Rattle.cd_node.specs.Going.{AreTold, RowStopped};
 ghost use Rattle.cd_node.specs.Question.{answers_of};
 ghost use Rattle.cd_node.specs.Sessions.{IsAt};
 
@@ -69,6 +69,11 @@ pub fn on_frame<T: Texts, R: Rules<T>, D: Disk, F: Files, L: Lines>(
         (spot registry.new.entries (F.state files.new).shelf phase.new holders.new (L.traffic lines.new))) }
     ensures told { F.told → IfOk result (λ given. (node : Node) → IsAt F.told (R.setting rules.now) T.read sid.number others.now node (spot registry.old.entries (F.state files.old).shelf phase.old holders.old (L.traffic lines.old))
         → AreTold most_parts (does sid.number (first_part node.desk node.sessions now sid.number (message_of frame.now)).deeds node) sid.number (answers_of now given buffer.new.items) (first_part node.desk node.sessions now sid.number (message_of frame.now)).later) }
+
+    // What is done where it fails.
+    ensures stopped { IfErr result (λ fault. RowStopped F.told L.told sid.number now fault (λ node answers. row node sid.number answers (message_of frame.now)) (λ node. IsAt F.told (R.setting rules.now) T.read sid.number others.now node (spot registry.old.entries (F.state files.old).shelf phase.old holders.old (L.traffic lines.old)))
+        (spot registry.old.entries (F.state files.old).shelf phase.old holders.old (L.traffic lines.old))
+        (spot registry.new.entries (F.state files.new).shelf phase.new holders.new (L.traffic lines.new))) }
 
     // What stands then.
     ensures legal { OnOk result (is_legal T.read registry.new.entries ≡ true) }

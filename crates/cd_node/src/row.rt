@@ -1,5 +1,5 @@
 //! A part, and all that comes behind it.
-ghost use Rattle.std.specs.Prelude.{◌≡◌, ◌≢◌, ◌≤◌, ℕ, true, map, Err, OnOk, IfOk};
+ghost use Rattle.std.specs.Prelude.{◌≡◌, ◌≢◌, ◌≤◌, ℕ, true, map, Err, OnOk, IfOk, IfErr};
 ghost use Rattle.cd_outside.specs.Counts.{Rose};
 ghost use Rattle.cd_outside.specs.Disk.{last_of};
 ghost use Rattle.cd_outside.specs.Files.{files_last_of};
@@ -13,7 +13,7 @@ ghost use Rattle.cd_moves.specs.Rows.{all_parts, most_parts, are_allowed};
 ghost use Rattle.cd_moves.specs.Seen.{seen_deed, seen_part};
 ghost use Rattle.cd_deeds.specs.Registry.{IsRegistry};
 ghost use Rattle.cd_deeds.specs.Stands.{spot, WereDone, HaveFormedOrigins};
-ghost use Rattle.cd_node.specs.Going.{AreTold, IsSo};
+ghost use Rattle.cd_node.specs.Going.{AreTold, IsSo, RowStopped};
 ghost use Rattle.cd_node.specs.Question.{answers_of};
 
 use crate::given::Given;
@@ -64,6 +64,11 @@ pub fn go_all<T: Texts, R: Rules<T>, D: Disk, F: Files, L: Lines>(
         (spot registry.new.entries (F.state files.new).shelf phase.new holders.new (L.traffic lines.new))) }
     ensures told { F.told → IfOk result (λ given. (node : Node) → IsSo F.told (R.setting rules.now) T.read sid.number node (spot registry.old.entries (F.state files.old).shelf phase.old holders.old (L.traffic lines.old))
         → AreTold most_parts (does sid.number (seen_part part.entry).deeds node) sid.number (answers_of now given buffer.new.items) (seen_part part.entry).later) }
+
+    // What is done where it fails.
+    ensures stopped { IfErr result (λ fault. RowStopped F.told L.told sid.number now fault (λ node answers. all_parts most_parts node sid.number answers (seen_part part.entry)) (λ node. IsSo F.told (R.setting rules.now) T.read sid.number node (spot registry.old.entries (F.state files.old).shelf phase.old holders.old (L.traffic lines.old)))
+        (spot registry.old.entries (F.state files.old).shelf phase.old holders.old (L.traffic lines.old))
+        (spot registry.new.entries (F.state files.new).shelf phase.new holders.new (L.traffic lines.new))) }
 
     // What stands then.
     ensures legal { OnOk result (is_legal T.read registry.new.entries ≡ true) }

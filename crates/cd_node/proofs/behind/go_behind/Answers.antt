@@ -1,10 +1,12 @@
-use Rattle.std.proofs.Common.{◌≡◌, Err, refl, ap, map}
+use Rattle.std.proofs.Common.{◌≡◌, Err, inl, inr, [], refl, sym, ap, map}
 use Rattle.cd_moves.specs.Seen.{seen_deed, seen_part}
 use Rattle.cd_deeds.specs.Stands.{spot}
 use Rattle.cd_deeds.specs.declared.fault.Fault.{Fault}
 use Rattle.cd_deeds.specs.declared.fault.Fault.TheVariants as fault
-use Rattle.cd_node.specs.Question.{answers_of}
+use Rattle.cd_node.specs.Question.{answers_of, seen_question}
 use Rattle.cd_node.proofs.Parts.{made_fits, done_legal, done_on_time}
+use Rattle.cd_outside.specs.Files.{FilesState}
+use Rattle.cd_node.proofs.Way.{nothing_done, behind_stopped}
 use Rattle.cd_node.proofs.behind.go_behind.Goals as goal
 
 pub perform-requires-clause-allowed : goal.perform-requires-clause-allowed
@@ -36,3 +38,22 @@ returns-in-Ok-perform-clause-on_time g c =
 
 pub returns-in-Err-perform-clause-registry : goal.returns-in-Err-perform-clause-registry
 returns-in-Err-perform-clause-registry g c = λ told other. c.in-Err-perform.ensures.registry told (λ h. let is : c.in-Err-perform.fault ≡ fault.Disk = cc in other (ap (λ (f : Fault). Err f) is))
+
+pub returns-in-Err-clause-stopped : goal.returns-in-Err-clause-stopped
+returns-in-Err-clause-stopped g c =
+    inl (nothing_done g.F.Files.told g.L.Lines.told c.args.sid.number c.args.registry.now.entries (g.F.Files.state c.args.files.now).shelf (g.F.Files.state c.ask.new.files).shelf c.args.phase.now c.args.holders.now (g.L.Lines.traffic c.args.lines.now)
+    (λ told. ap (λ (s : FilesState). s.shelf) (c.ask.ensures.same told)), c.in-Err.ensures.fault)
+
+pub returns-in-Err-part_behind-clause-stopped : goal.returns-in-Err-part_behind-clause-stopped
+returns-in-Err-part_behind-clause-stopped g c =
+    inl (nothing_done g.F.Files.told g.L.Lines.told c.args.sid.number c.args.registry.now.entries (g.F.Files.state c.args.files.now).shelf (g.F.Files.state c.ask.new.files).shelf c.args.phase.now c.args.holders.now (g.L.Lines.traffic c.args.lines.now)
+    (λ told. ap (λ (s : FilesState). s.shelf) (c.ask.ensures.same told)), tt)
+
+pub returns-in-Err-perform-clause-stopped : goal.returns-in-Err-perform-clause-stopped
+returns-in-Err-perform-clause-stopped g c = inr
+    (behind_stopped g.F.Files.told g.L.Lines.told (g.R.Rules.setting c.args.rules.now) g.T.Texts.read c.args.sid.number c.in-Err-perform.fault c.args.registry.now.entries (g.F.Files.state c.args.files.now).shelf (g.F.Files.state c.ask.new.files).shelf c.args.phase.now c.args.holders.now (g.L.Lines.traffic c.args.lines.now)
+    c.book.result.now.entries c.book-2.result.now.entries c.args.then.now (seen_question c.asked.result) (answers_of c.args.now c.args.given.now c.args.buffer.now.items) (answers_of c.args.now c.ask.new.given c.ask.new.buffer.items)
+    (answers_of c.args.now c.ask.new.given c.as_slice.result.now) (seen_part c.in-Ok-part_behind.part)
+    (spot c.perform.new.registry.entries (g.F.Files.state c.perform.new.files).shelf c.perform.new.phase c.perform.new.holders (g.L.Lines.traffic c.perform.new.lines))
+    (λ told. ap (λ (s : FilesState). s.shelf) (c.ask.ensures.same told)) c.book.ensures c.book-2.ensures (ap (answers_of c.args.now c.ask.new.given) c.as_slice.ensures.value)
+    c.asked.ensures (c.in-Ok.ensures.answered c.args.now) c.in-Ok-part_behind.ensures.part c.in-Err-perform.ensures.cut)

@@ -3,7 +3,7 @@ use Rattle.cd_deeds.specs.Stands.{spot}
 use Rattle.cd_deeds.specs.declared.fault.Fault.{Fault}
 use Rattle.cd_deeds.specs.declared.fault.Fault.TheVariants as fault
 use Rattle.cd_node.specs.Question.{answers_of}
-use Rattle.cd_node.proofs.Way.{way_none, way_next, way_over, way_end, way_told, way_out, way_out_told, fell_then, fell_none}
+use Rattle.cd_node.proofs.Way.{way_none, way_next, way_over, way_end, way_told, way_out, way_out_told, way_stopped, fell_then, fell_none}
 use Rattle.cd_node.proofs.going.go_on.Goals as goal
 
 pub loop-turn-init : goal.loop-turn-init
@@ -71,3 +71,12 @@ returns-clause-told g c = λ told.
     way_out_told g.F.Files.told g.L.Lines.told (g.R.Rules.setting c.args.rules.now) g.T.Texts.read c.args.sid.number 1030 c.args.then (spot c.args.registry.now.entries (g.F.Files.state c.args.files.now).shelf c.args.phase.now c.args.holders.now (g.L.Lines.traffic c.args.lines.now))
     c.loop-turn.later (answers_of c.args.now c.loop-turn.given c.loop-turn.buffer.items) (spot c.loop-turn.registry.entries (g.F.Files.state c.loop-turn.files).shelf c.loop-turn.phase c.loop-turn.holders (g.L.Lines.traffic c.loop-turn.lines))
     (way_over g.F.Files.told g.L.Lines.told (g.R.Rules.setting c.args.rules.now) g.T.Texts.read c.args.sid.number 1030 c.args.then (spot c.args.registry.now.entries (g.F.Files.state c.args.files.now).shelf c.args.phase.now c.args.holders.now (g.L.Lines.traffic c.args.lines.now)) c.loop-turn._turn c.loop-turn.later (answers_of c.args.now c.loop-turn.given c.loop-turn.buffer.items) (spot c.loop-turn.registry.entries (g.F.Files.state c.loop-turn.files).shelf c.loop-turn.phase c.loop-turn.holders (g.L.Lines.traffic c.loop-turn.lines)) c.loop-turn-test.false c.loop-turn.invariant.way) told
+
+pub returns-in-Err-clause-stopped : goal.returns-in-Err-clause-stopped
+returns-in-Err-clause-stopped g c =
+    way_stopped g.F.Files.told g.L.Lines.told (g.R.Rules.setting c.args.rules.now) g.T.Texts.read c.args.sid.number 1030 c.args.now c.args.then
+    (spot c.args.registry.now.entries (g.F.Files.state c.args.files.now).shelf c.args.phase.now c.args.holders.now (g.L.Lines.traffic c.args.lines.now))
+    c.loop-turn._turn c.loop-turn.later (answers_of c.args.now c.loop-turn.given c.loop-turn.buffer.items) (answers_of c.args.now c.go_behind.new.given c.go_behind.new.buffer.items) c.in-Err.fault
+    (spot c.loop-turn.registry.entries (g.F.Files.state c.loop-turn.files).shelf c.loop-turn.phase c.loop-turn.holders (g.L.Lines.traffic c.loop-turn.lines))
+    (spot c.go_behind.new.registry.entries (g.F.Files.state c.go_behind.new.files).shelf c.go_behind.new.phase c.go_behind.new.holders (g.L.Lines.traffic c.go_behind.new.lines))
+    c.loop-turn-test.true refl refl (sym c.is_done.ensures ∙ c.if-is_done.false) c.loop-turn.invariant.way c.in-Err.ensures.stopped

@@ -1,4 +1,4 @@
-use Rattle.std.proofs.Common.{◌≡◌, Err, map, ap}
+use Rattle.std.proofs.Common.{◌≡◌, None, Err, [], refl, map, ap}
 use Rattle.cd_moves.specs.Rows.{most_parts}
 use Rattle.cd_moves.specs.Seen.{seen_deed, seen_part}
 use Rattle.cd_deeds.specs.Stands.{spot}
@@ -6,7 +6,7 @@ use Rattle.cd_deeds.specs.declared.fault.Fault.{Fault}
 use Rattle.cd_deeds.specs.declared.fault.Fault.TheVariants as fault
 use Rattle.cd_node.specs.Question.{answers_of}
 use Rattle.cd_node.proofs.Parts.{done_legal, done_on_time}
-use Rattle.cd_node.proofs.Way.{parts_done, parts_told}
+use Rattle.cd_node.proofs.Way.{parts_done, parts_told, parts_cut, parts_stopped}
 use Rattle.cd_node.proofs.row.go_all.Goals as goal
 
 pub go_on-requires-clause-legal : goal.go_on-requires-clause-legal
@@ -40,3 +40,18 @@ returns-in-Ok-go_on-clause-told g c = λ told.
 
 pub returns-in-Err-clause-registry : goal.returns-in-Err-clause-registry
 returns-in-Err-clause-registry g c = λ told other. c.in-Err.ensures.registry told (λ h. let is : c.in-Err.fault ≡ fault.Disk = cc in other (ap (λ (f : Fault). Err f) is))
+
+pub returns-in-Err-clause-stopped : goal.returns-in-Err-clause-stopped
+returns-in-Err-clause-stopped g c =
+    parts_cut g.F.Files.told g.L.Lines.told (g.R.Rules.setting c.args.rules.now) g.T.Texts.read c.args.sid.number most_parts c.args.now (seen_part c.args.part) (answers_of c.args.now (record { there = None; source = None }) []) c.in-Err.fault
+    (spot c.args.registry.now.entries (g.F.Files.state c.args.files.now).shelf c.args.phase.now c.args.holders.now (g.L.Lines.traffic c.args.lines.now))
+    (spot c.perform.new.registry.entries (g.F.Files.state c.perform.new.files).shelf c.perform.new.phase c.perform.new.holders (g.L.Lines.traffic c.perform.new.lines))
+    refl c.in-Err.ensures.cut
+
+pub returns-in-Err-go_on-clause-stopped : goal.returns-in-Err-go_on-clause-stopped
+returns-in-Err-go_on-clause-stopped g c =
+    parts_stopped g.F.Files.told g.L.Lines.told (g.R.Rules.setting c.args.rules.now) g.T.Texts.read c.args.sid.number most_parts c.args.now (seen_part c.args.part) c.in-Err-go_on.fault
+    (spot c.args.registry.now.entries (g.F.Files.state c.args.files.now).shelf c.args.phase.now c.args.holders.now (g.L.Lines.traffic c.args.lines.now))
+    (spot c.perform.new.registry.entries (g.F.Files.state c.perform.new.files).shelf c.perform.new.phase c.perform.new.holders (g.L.Lines.traffic c.perform.new.lines))
+    (spot c.go_on.new.registry.entries (g.F.Files.state c.go_on.new.files).shelf c.go_on.new.phase c.go_on.new.holders (g.L.Lines.traffic c.go_on.new.lines))
+    c.in-Ok.ensures.done c.in-Err-go_on.ensures.stopped
