@@ -449,8 +449,9 @@ pub behind_stopped : (files_told lines_told : Type 0) (setting : Setting) (read 
 behind_stopped files_told lines_told setting read sid fault entries shelf now phase holdings traffic book again then_what question earlier given lent part after same first second bytes asks answered made cut =
     let made_is : part ≡ part_at (desk_with setting read entries) phase given then_what =
     made ∙ ap (λ (es : List Entry). part_at (desk_with setting read es) phase lent then_what) second ∙ ap (λ (a : Answers). part_at (desk_with setting read entries) phase a then_what) bytes in
-    let asks_is : question ≡ question_of (desk_with setting read entries) then_what = asks ∙ ap (λ (es : List Entry). question_of (desk_with setting read es) then_what) first in
-    (subst (λ (q : Question). IsAnswered q earlier given) asks_is answered,
-    subst (λ (p : Part). WereCut files_told lines_told sid p.deeds fault (spot entries shelf phase holdings traffic) after) made_is
-    (cut_behind files_told lines_told sid [] part.deeds fault (spot entries shelf phase holdings traffic) (spot entries now phase holdings traffic) after
-    (nothing_done files_told lines_told sid entries shelf now phase holdings traffic same) cut))
+    let asks_is : question ≡ question_of (desk_with setting read entries) then_what = asks ∙ ap (λ (es : List Entry). question_of (desk_with setting read es) then_what) first in (
+      subst (λ (q : Question). IsAnswered q earlier given) asks_is answered,
+      subst (λ (p : Part). WereCut files_told lines_told sid p.deeds fault (spot entries shelf phase holdings traffic) after) made_is
+          (cut_behind files_told lines_told sid [] part.deeds fault (spot entries shelf phase holdings traffic) (spot entries now phase holdings traffic) after
+          (nothing_done files_told lines_told sid entries shelf now phase holdings traffic same) cut),
+    )

@@ -96,9 +96,19 @@ pub fn on_frame<T: Texts, R: Rules<T>, D: Disk, F: Files, L: Lines>(
     ensures files_later { F.faults files.old ≤ F.faults files.new }
     ensures lines_later { NeverFell (L.counts lines.old) (L.counts lines.new) }
 {
-    match rules.first_part(alloc, registry.book(), others, holders, now, sid, phase, frame) {
+    match rules.first_part(
+        alloc,
+        registry.book(),
+        others,
+        holders,
+        now,
+        sid,
+        phase,
+        frame,
+    ) {
         Ok(part) => match go_all(
-            alloc, rules, registry, phase, holders, sid, now, disk, files, lines, part, buffer, beat,
+            alloc, rules, registry, phase, holders, sid, now, disk, files, lines, part, buffer,
+            beat,
         ) {
             Ok(given) => Ok(given),
             Err(fault) => Err(fault),

@@ -104,8 +104,8 @@ pub(crate) fn go_on<T: Texts, R: Rules<T>, D: Disk, F: Files, L: Lines>(
             return Ok(());
         }
         match go_behind(
-            alloc, rules, registry, phase, holders, sid, now, disk, files, lines, &later, given, buffer,
-            beat,
+            alloc, rules, registry, phase, holders, sid, now, disk, files, lines, &later, given,
+            buffer, beat,
         ) {
             Ok(behind) => later = behind,
             Err(fault) => return Err(fault),

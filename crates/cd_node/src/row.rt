@@ -101,8 +101,8 @@ pub fn go_all<T: Texts, R: Rules<T>, D: Disk, F: Files, L: Lines>(
                 source: None,
             };
             match go_on(
-                alloc, rules, registry, phase, holders, sid, now, disk, files, lines, later, &mut given,
-                buffer, beat,
+                alloc, rules, registry, phase, holders, sid, now, disk, files, lines, later,
+                &mut given, buffer, beat,
             ) {
                 Ok(()) => Ok(given),
                 Err(fault) => Err(fault),

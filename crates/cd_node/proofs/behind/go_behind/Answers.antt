@@ -41,13 +41,19 @@ returns-in-Err-perform-clause-registry g c = λ told other. c.in-Err-perform.ens
 
 pub returns-in-Err-clause-stopped : goal.returns-in-Err-clause-stopped
 returns-in-Err-clause-stopped g c =
-    inl (nothing_done g.F.Files.told g.L.Lines.told c.args.sid.number c.args.registry.now.entries (g.F.Files.state c.args.files.now).shelf (g.F.Files.state c.ask.new.files).shelf c.args.phase.now c.args.holders.now (g.L.Lines.traffic c.args.lines.now)
-    (λ told. ap (λ (s : FilesState). s.shelf) (c.ask.ensures.same told)), c.in-Err.ensures.fault)
+    inl (
+      nothing_done g.F.Files.told g.L.Lines.told c.args.sid.number c.args.registry.now.entries (g.F.Files.state c.args.files.now).shelf (g.F.Files.state c.ask.new.files).shelf c.args.phase.now c.args.holders.now (g.L.Lines.traffic c.args.lines.now)
+          (λ told. ap (λ (s : FilesState). s.shelf) (c.ask.ensures.same told)),
+      c.in-Err.ensures.fault,
+    )
 
 pub returns-in-Err-part_behind-clause-stopped : goal.returns-in-Err-part_behind-clause-stopped
 returns-in-Err-part_behind-clause-stopped g c =
-    inl (nothing_done g.F.Files.told g.L.Lines.told c.args.sid.number c.args.registry.now.entries (g.F.Files.state c.args.files.now).shelf (g.F.Files.state c.ask.new.files).shelf c.args.phase.now c.args.holders.now (g.L.Lines.traffic c.args.lines.now)
-    (λ told. ap (λ (s : FilesState). s.shelf) (c.ask.ensures.same told)), tt)
+    inl (
+      nothing_done g.F.Files.told g.L.Lines.told c.args.sid.number c.args.registry.now.entries (g.F.Files.state c.args.files.now).shelf (g.F.Files.state c.ask.new.files).shelf c.args.phase.now c.args.holders.now (g.L.Lines.traffic c.args.lines.now)
+          (λ told. ap (λ (s : FilesState). s.shelf) (c.ask.ensures.same told)),
+      tt,
+    )
 
 pub returns-in-Err-perform-clause-stopped : goal.returns-in-Err-perform-clause-stopped
 returns-in-Err-perform-clause-stopped g c = inr
