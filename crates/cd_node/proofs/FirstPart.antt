@@ -8,11 +8,11 @@ use Rattle.cd_legal.specs.Legal.{is_legal}
 use Rattle.cd_legal.specs.Promises.{HavePriorities}
 use Rattle.cd_legal.specs.Steps.{Reading}
 use Rattle.cd_moves.specs.declared.session.Phase.{Phase}
-use Rattle.cd_moves.specs.Node.{Desk, Node, Deed, Part, Answers, does}
+use Rattle.cd_moves.specs.Node.{Desk, Node, Part, Answers, does}
 use Rattle.cd_moves.specs.Rows.{are_allowed, first_part, all_parts, most_parts, row}
 use Rattle.cd_moves.specs.RowsLaw.{first_fits}
 use Rattle.cd_deeds.specs.declared.holders.Holding.{Holding}
-use Rattle.cd_deeds.specs.Stands.{Spot, Stands, WereDone, IsFaultOfAsking}
+use Rattle.cd_deeds.specs.Stands.{Spot, WereDone, IsFaultOfAsking}
 use Rattle.cd_deeds.specs.declared.fault.Fault.{Fault}
 use Rattle.cd_node.specs.declared.session.Session.{Session}
 use Rattle.cd_node.specs.Going.{AreTold, IsSo, WereStopped, RowStopped}

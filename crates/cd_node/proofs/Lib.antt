@@ -1,3 +1,4 @@
+mod Crash
 mod FirstPart
 mod Parts
 mod Way

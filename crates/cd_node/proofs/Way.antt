@@ -1,5 +1,5 @@
 -- A row that is done part by part.
-use Rattle.std.proofs.Common.{◌≡◌, ◌⊎◌, inl, inr, ⊎_elim, ℕ, zero, suc, ◌+◌, ◌-◌, ◌<◌, ◌≤◌, Bool, true, false, cond, List, [], ◌∷◌, ◌++◌, Option, None, refl, sym, ◌∙◌, ap, subst, append_assoc, arith}
+use Rattle.std.proofs.Common.{◌≡◌, ◌⊎◌, inl, inr, ⊎_elim, ℕ, zero, suc, ◌+◌, ◌-◌, ◌<◌, ◌≤◌, Bool, true, false, List, [], ◌∷◌, ◌++◌, Option, None, refl, sym, ◌∙◌, ap, subst, append_assoc, arith}
 use Rattle.std.proofs.lemmas.List.{append-nil}
 use Rattle.cd_outside.specs.Lines.{Traffic, sent, LineCounts, NeverFell}
 use Rattle.cd_outside.specs.Shelf.{Shelf}
@@ -16,13 +16,12 @@ use Rattle.cd_moves.specs.RowsLaw.{same_config}
 use Rattle.cd_deeds.specs.Stands.{Spot, spot, Stands, gave, WereDone, WereCut, IsFaultOfAsking}
 use Rattle.cd_deeds.specs.declared.fault.Fault.{Fault}
 use Rattle.cd_deeds.specs.declared.holders.Holding.{Holding}
-use Rattle.cd_node.specs.Going.{Unless, AreTold, IsSo, IsOnItsWay, WereLeft, WereStopped, RowStopped}
-use Rattle.cd_node.specs.Question.{Setting, config_with, desk_with, Question, Nothing, Destination, Source, Bytes, question_of, IsAnswered, IsTold, part_at}
+use Rattle.cd_node.specs.Going.{Unless, AreTold, IsSo, IsOnItsWay, WereStopped, RowStopped}
+use Rattle.cd_node.specs.Question.{Setting, config_with, desk_with, Question, question_of, IsAnswered, IsTold, part_at}
 use Rattle.cd_node.specs.Rest.{part_after, rest, rank, rank_behind, Agrees}
 use Rattle.cd_node.specs.RestLaw.{parts_rest, after_rank, rest_step, rest_done}
-use Rattle.cd_node.proofs.Parts.{node_at}
 
-does_then : (sid : ℕ) (first second : List Deed) (node : Node) → does sid (first ++ second) node ≡ does sid second (does sid first node)
+pub does_then : (sid : ℕ) (first second : List Deed) (node : Node) → does sid (first ++ second) node ≡ does sid second (does sid first node)
 does_then sid [] second node = refl
 does_then sid (deed ∷ first) second node = does_then sid first second (did sid deed node)
 
@@ -50,7 +49,7 @@ done_then files_told lines_told sid first second a b c one two = record {
 }
 
 -- questions change nothing
-asked_does : (sid : ℕ) (desk : Desk) (then_what : Then) (deeds : List Deed) (node : Node) → does sid (asked desk then_what ++ deeds) node ≡ does sid deeds node
+pub asked_does : (sid : ℕ) (desk : Desk) (then_what : Then) (deeds : List Deed) (node : Node) → does sid (asked desk then_what ++ deeds) node ≡ does sid deeds node
 asked_does sid desk Done deeds node = refl
 asked_does sid desk (Next talk n) deeds node = refl
 asked_does sid desk (Undo role talk key why) deeds node = refl
@@ -70,7 +69,7 @@ asked_done files_told lines_told sid desk (Piece role talk key source offset) at
 
 -- Answers that agree.
 
-agrees_same : (answers given : Answers) (r s : ℕ) → r ≤ s → Agrees answers given r → Agrees answers given s
+pub agrees_same : (answers given : Answers) (r s : ℕ) → r ≤ s → Agrees answers given r → Agrees answers given s
 agrees_same answers given r s le is = record {
   now = is.now;
   there = λ few. is.there (omega (arith, le, few));
@@ -78,11 +77,11 @@ agrees_same answers given r s le is = record {
   bytes = λ few. is.bytes (omega (arith, le, few));
 }
 
-agrees_self : (answers : Answers) (r : ℕ) → Agrees answers answers r
+pub agrees_self : (answers : Answers) (r : ℕ) → Agrees answers answers r
 agrees_self answers r = record { now = refl; there = λ few. refl; source = λ few. refl; bytes = λ few. refl }
 
 -- the answers so far were given before the question, but for what it asks
-agrees_before : (desk : Desk) (then_what : Then) (answers before given : Answers) → IsAnswered (question_of desk then_what) before given → Agrees answers given (rank_behind then_what) → Agrees answers before (rank then_what)
+pub agrees_before : (desk : Desk) (then_what : Then) (answers before given : Answers) → IsAnswered (question_of desk then_what) before given → Agrees answers given (rank_behind then_what) → Agrees answers before (rank then_what)
 agrees_before desk Done answers before given same is = subst (λ (g : Answers). Agrees answers g 0) same is
 agrees_before desk (Next talk n) answers before given same is = subst (λ (g : Answers). Agrees answers g 2) same is
 agrees_before desk (Undo role talk key why) answers before given same is = subst (λ (g : Answers). Agrees answers g 2) same is
@@ -121,7 +120,7 @@ behind_agrees desk now phase (Offered talk key name interval) answers given is =
 behind_agrees desk now phase (Onto role talk key a) answers given is = ap (λ (size : Option ℕ). part_behind desk now phase (record given { there = size }) (Onto role talk key a)) (is.there (omega arith))
 behind_agrees desk now phase (Piece role talk key source offset) answers given is = ap (λ (bytes : List ℕ). part_behind desk now phase (record given { bytes = bytes }) (Piece role talk key source offset)) (is.bytes (omega arith))
 
-part_agrees : (desk : Desk) (phase : Phase) (then_what : Then) (answers given : Answers) → Agrees answers given (rank_behind then_what) → part_at desk phase answers then_what ≡ part_at desk phase given then_what
+pub part_agrees : (desk : Desk) (phase : Phase) (then_what : Then) (answers given : Answers) → Agrees answers given (rank_behind then_what) → part_at desk phase answers then_what ≡ part_at desk phase given then_what
 part_agrees desk phase then_what answers given is =
     ap (λ (n : ℕ). checked desk n phase (part_behind desk n phase answers then_what)) is.now ∙ ap (checked desk given.now phase) (behind_agrees desk given.now phase then_what answers given is)
 
@@ -141,7 +140,7 @@ desk_is setting read entries desk config journal =
     ap (λ (c : Config). record { config = c; journal = desk.journal }) config ∙ ap (λ (es : List Entry). record { config = config_with setting read; journal = es }) journal
 
 -- the questions of a part whose answers were given
-part_rank : (desk : Desk) (phase : Phase) (answers : Answers) (then_what : Then) (at : Spot) → rank (part_at desk phase answers then_what).later ≤ rank_behind then_what
+pub part_rank : (desk : Desk) (phase : Phase) (answers : Answers) (then_what : Then) (at : Spot) → rank (part_at desk phase answers then_what).later ≤ rank_behind then_what
 part_rank desk phase answers then_what at = after_rank (record { desk = desk; shelf = at.shelf; sessions = record { sids = []; phase = λ sid. phase; holder = λ key. None } }) 0 answers then_what
 
 module _ (files_told lines_told : Type 0) (setting : Setting) (read : Reading) (sid whole : ℕ) (first : Then) (before : Spot) where

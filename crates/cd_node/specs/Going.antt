@@ -1,10 +1,11 @@
 -- What is left of a row while it is done, part by part.
 use Rattle.std.specs.Prelude.{◌≡◌, ◌⊎◌, ℕ, zero, suc, List, ◌++◌, Bool, true, false}
-use Rattle.cd_outside.specs.Shelf.{Shelf}
+use Rattle.cd_outside.specs.Moments.{Moments}
 use Rattle.cd_legal.specs.Steps.{Reading}
 use Rattle.cd_moves.specs.declared.session.Then.{Then}
 use Rattle.cd_moves.specs.Node.{Node, Deed, does, Answers}
 use Rattle.cd_moves.specs.Rows.{is_done}
+use Rattle.cd_deeds.specs.Joint.{NodeImage, IsWithin}
 use Rattle.cd_deeds.specs.Stands.{Spot, Stands, WereDone, WereCut, IsFaultOfAsking}
 use Rattle.cd_deeds.specs.declared.fault.Fault.{Fault}
 use Rattle.cd_node.specs.Question.{Setting, config_with, question_of, IsTold}
@@ -54,3 +55,9 @@ pub record RowStopped (files_told lines_told : Type 0) (sid now : ℕ) (fault : 
   pub answers : Answers
   pub moment : answers.now ≡ now
   pub stopped : (node : Node) → is_it node → WereStopped files_told lines_told sid (deeds node answers) fault before after
+
+-- At each moment a crash leaves of this node what a first part of such deeds leaves, for answers of this moment.
+pub record MayLeave (sid now : ℕ) (deeds : Answers → List Deed) (node : Node) (first last : ℕ → NodeImage → Type 0) (from : ℕ) : Type 0 where
+  pub answers : Answers
+  pub moment : answers.now ≡ now
+  pub moments : Moments first last from (IsWithin sid (deeds answers) node)

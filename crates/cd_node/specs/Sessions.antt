@@ -1,6 +1,5 @@
 -- The sessions of a node while one of them is at hand.
-use Rattle.std.specs.Prelude.{◌≡◌, ℕ, List, [], ◌∷◌, Option, ◌==◌, if◌then◌else◌}
-use Rattle.cd_types.specs.declared.key.Key.{Key}
+use Rattle.std.specs.Prelude.{◌≡◌, ℕ, List, [], ◌∷◌, ◌==◌, if◌then◌else◌}
 use Rattle.cd_legal.specs.Steps.{Reading}
 use Rattle.cd_moves.specs.declared.session.Phase.{Phase}
 use Rattle.cd_moves.specs.declared.session.Phase.TheVariants.{Gone}

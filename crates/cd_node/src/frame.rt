@@ -1,9 +1,10 @@
 //! What is done about a frame.
-ghost use Rattle.std.specs.Prelude.{◌≡◌, ◌≢◌, ◌≤◌, ℕ, true, Err, OnOk, IfOk, IfErr};
+ghost use Rattle.std.specs.Prelude.{◌≡◌, ◌≢◌, ◌≤◌, ℕ, true, Err, OnOk, OnErr, IfOk, IfErr};
 ghost use Rattle.cd_outside.specs.Counts.{Rose};
 ghost use Rattle.cd_outside.specs.Disk.{last_of};
 ghost use Rattle.cd_outside.specs.Files.{files_last_of};
 ghost use Rattle.cd_outside.specs.Lines.{NeverFell};
+ghost use Rattle.cd_outside.specs.Moments.{Moments};
 ghost use Rattle.cd_frames.specs.Message.{message_of};
 ghost use Rattle.cd_journal.specs.Journal.{length_of};
 ghost use Rattle.cd_status.specs.Processes.{latest};
@@ -11,9 +12,10 @@ ghost use Rattle.cd_legal.specs.Legal.{is_legal};
 ghost use Rattle.cd_legal.specs.Promises.{HavePriorities};
 ghost use Rattle.cd_moves.specs.Node.{Node, does};
 ghost use Rattle.cd_moves.specs.Rows.{first_part, most_parts, row};
+ghost use Rattle.cd_deeds.specs.Joint.{JointAt, IsWithin};
 ghost use Rattle.cd_deeds.specs.Registry.{IsRegistry};
 ghost use Rattle.cd_deeds.specs.Stands.{spot, WereDone};
-ghost use Rattle.cd_node.specs.Going.{AreTold, RowStopped};
+ghost use Rattle.cd_node.specs.Going.{AreTold, RowStopped, MayLeave};
 ghost use Rattle.cd_node.specs.Question.{answers_of};
 ghost use Rattle.cd_node.specs.Sessions.{IsAt};
 
@@ -74,6 +76,12 @@ pub fn on_frame<T: Texts, R: Rules<T>, D: Disk, F: Files, L: Lines>(
     ensures stopped { IfErr result (λ fault. RowStopped F.told L.told sid.number now fault (λ node answers. row node sid.number answers (message_of frame.now)) (λ node. IsAt F.told (R.setting rules.now) T.read sid.number others.now node (spot registry.old.entries (F.state files.old).shelf phase.old holders.old (L.traffic lines.old)))
         (spot registry.old.entries (F.state files.old).shelf phase.old holders.old (L.traffic lines.old))
         (spot registry.new.entries (F.state files.new).shelf phase.new holders.new (L.traffic lines.new))) }
+
+    // What a crash leaves at each moment.
+    ensures moments { D.told → F.told → IfOk result (λ given. (node : Node) → IsAt F.told (R.setting rules.now) T.read sid.number others.now node (spot registry.old.entries (F.state files.old).shelf phase.old holders.old (L.traffic lines.old))
+        → Moments (JointAt (D.state disk.old) (F.state files.old)) (JointAt (D.state disk.new) (F.state files.new)) beat.old (IsWithin sid.number (row node sid.number (answers_of now given buffer.new.items) (message_of frame.now)) node)) }
+    ensures crash { D.told → F.told → OnErr result ((node : Node) → IsAt F.told (R.setting rules.now) T.read sid.number others.now node (spot registry.old.entries (F.state files.old).shelf phase.old holders.old (L.traffic lines.old))
+        → MayLeave sid.number now (λ answers. row node sid.number answers (message_of frame.now)) node (JointAt (D.state disk.old) (F.state files.old)) (JointAt (D.state disk.new) (F.state files.new)) beat.old) }
 
     // What stands then.
     ensures legal { OnOk result (is_legal T.read registry.new.entries ≡ true) }

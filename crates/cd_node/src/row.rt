@@ -1,9 +1,10 @@
 //! A part, and all that comes behind it.
-ghost use Rattle.std.specs.Prelude.{◌≡◌, ◌≢◌, ◌≤◌, ℕ, true, map, Err, OnOk, IfOk, IfErr};
+ghost use Rattle.std.specs.Prelude.{◌≡◌, ◌≢◌, ◌≤◌, ℕ, true, map, Err, OnOk, OnErr, IfOk, IfErr};
 ghost use Rattle.cd_outside.specs.Counts.{Rose};
 ghost use Rattle.cd_outside.specs.Disk.{last_of};
 ghost use Rattle.cd_outside.specs.Files.{files_last_of};
 ghost use Rattle.cd_outside.specs.Lines.{NeverFell};
+ghost use Rattle.cd_outside.specs.Moments.{Moments};
 ghost use Rattle.cd_journal.specs.Journal.{length_of};
 ghost use Rattle.cd_status.specs.Processes.{latest};
 ghost use Rattle.cd_legal.specs.Legal.{is_legal};
@@ -11,9 +12,10 @@ ghost use Rattle.cd_legal.specs.Promises.{HavePriorities};
 ghost use Rattle.cd_moves.specs.Node.{Node, does};
 ghost use Rattle.cd_moves.specs.Rows.{all_parts, most_parts, are_allowed};
 ghost use Rattle.cd_moves.specs.Seen.{seen_deed, seen_part};
+ghost use Rattle.cd_deeds.specs.Joint.{JointAt, IsWithin};
 ghost use Rattle.cd_deeds.specs.Registry.{IsRegistry};
 ghost use Rattle.cd_deeds.specs.Stands.{spot, WereDone, HaveFormedOrigins};
-ghost use Rattle.cd_node.specs.Going.{AreTold, IsSo, RowStopped};
+ghost use Rattle.cd_node.specs.Going.{AreTold, IsSo, RowStopped, MayLeave};
 ghost use Rattle.cd_node.specs.Question.{answers_of};
 
 use crate::given::Given;
@@ -69,6 +71,12 @@ pub fn go_all<T: Texts, R: Rules<T>, D: Disk, F: Files, L: Lines>(
     ensures stopped { IfErr result (λ fault. RowStopped F.told L.told sid.number now fault (λ node answers. all_parts most_parts node sid.number answers (seen_part part.entry)) (λ node. IsSo F.told (R.setting rules.now) T.read sid.number node (spot registry.old.entries (F.state files.old).shelf phase.old holders.old (L.traffic lines.old)))
         (spot registry.old.entries (F.state files.old).shelf phase.old holders.old (L.traffic lines.old))
         (spot registry.new.entries (F.state files.new).shelf phase.new holders.new (L.traffic lines.new))) }
+
+    // What a crash leaves at each moment.
+    ensures moments { D.told → F.told → IfOk result (λ given. (node : Node) → IsSo F.told (R.setting rules.now) T.read sid.number node (spot registry.old.entries (F.state files.old).shelf phase.old holders.old (L.traffic lines.old))
+        → Moments (JointAt (D.state disk.old) (F.state files.old)) (JointAt (D.state disk.new) (F.state files.new)) beat.old (IsWithin sid.number (all_parts most_parts node sid.number (answers_of now given buffer.new.items) (seen_part part.entry)) node)) }
+    ensures crash { D.told → F.told → OnErr result ((node : Node) → IsSo F.told (R.setting rules.now) T.read sid.number node (spot registry.old.entries (F.state files.old).shelf phase.old holders.old (L.traffic lines.old))
+        → MayLeave sid.number now (λ answers. all_parts most_parts node sid.number answers (seen_part part.entry)) node (JointAt (D.state disk.old) (F.state files.old)) (JointAt (D.state disk.new) (F.state files.new)) beat.old) }
 
     // What stands then.
     ensures legal { OnOk result (is_legal T.read registry.new.entries ≡ true) }

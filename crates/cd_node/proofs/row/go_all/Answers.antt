@@ -5,8 +5,11 @@ use Rattle.cd_deeds.specs.Stands.{spot}
 use Rattle.cd_deeds.specs.declared.fault.Fault.{Fault}
 use Rattle.cd_deeds.specs.declared.fault.Fault.TheVariants as fault
 use Rattle.cd_node.specs.Question.{answers_of}
+use Rattle.cd_moves.specs.Node.{does}
+use Rattle.cd_deeds.specs.Joint.{JointAt}
+use Rattle.cd_node.proofs.Crash.{parts_first, parts_then}
 use Rattle.cd_node.proofs.Parts.{done_legal, done_on_time}
-use Rattle.cd_node.proofs.Way.{parts_done, parts_told, parts_cut, parts_stopped}
+use Rattle.cd_node.proofs.Way.{so_behind, parts_done, parts_told, parts_cut, parts_stopped}
 use Rattle.cd_node.proofs.row.go_all.Goals as goal
 
 pub go_on-requires-clause-legal : goal.go_on-requires-clause-legal
@@ -55,3 +58,33 @@ returns-in-Err-go_on-clause-stopped g c =
     (spot c.perform.new.registry.entries (g.F.Files.state c.perform.new.files).shelf c.perform.new.phase c.perform.new.holders (g.L.Lines.traffic c.perform.new.lines))
     (spot c.go_on.new.registry.entries (g.F.Files.state c.go_on.new.files).shelf c.go_on.new.phase c.go_on.new.holders (g.L.Lines.traffic c.go_on.new.lines))
     c.in-Ok.ensures.done c.in-Err-go_on.ensures.stopped
+
+pub returns-in-Ok-go_on-clause-moments : goal.returns-in-Ok-go_on-clause-moments
+returns-in-Ok-go_on-clause-moments g c = λ told files_told node is.
+    parts_then c.args.sid.number most_parts (seen_part c.args.part) (answers_of c.args.now c.go_on.new.given c.go_on.new.buffer.items) node
+    (JointAt (g.D.Disk.state c.args.disk.now) (g.F.Files.state c.args.files.now)) (JointAt (g.D.Disk.state c.perform.new.disk) (g.F.Files.state c.perform.new.files)) (JointAt (g.D.Disk.state c.go_on.new.disk) (g.F.Files.state c.go_on.new.files)) c.args.beat.now c.perform.new.beat c.perform.ensures.beat (c.perform.ensures.moments told files_told node is.stands)
+    (c.in-Ok-go_on.ensures.moments told files_told (does c.args.sid.number (seen_part c.args.part).deeds node) (so_behind g.F.Files.told g.L.Lines.told (g.R.Rules.setting c.args.rules.now) g.T.Texts.read c.args.sid.number (seen_part c.args.part).deeds
+    (spot c.args.registry.now.entries (g.F.Files.state c.args.files.now).shelf c.args.phase.now c.args.holders.now (g.L.Lines.traffic c.args.lines.now))
+    (spot c.perform.new.registry.entries (g.F.Files.state c.perform.new.files).shelf c.perform.new.phase c.perform.new.holders (g.L.Lines.traffic c.perform.new.lines))
+    c.in-Ok.ensures.done node is))
+
+pub returns-in-Err-clause-crash : goal.returns-in-Err-clause-crash
+returns-in-Err-clause-crash g c = λ told files_told node is. record {
+  answers = (answers_of c.args.now (record { there = None; source = None }) []);
+  moment = refl;
+  moments = parts_first c.args.sid.number most_parts (seen_part c.args.part) (answers_of c.args.now (record { there = None; source = None }) []) node (JointAt (g.D.Disk.state c.args.disk.now) (g.F.Files.state c.args.files.now)) (JointAt (g.D.Disk.state c.perform.new.disk) (g.F.Files.state c.perform.new.files)) c.args.beat.now (c.perform.ensures.moments told files_told node is.stands);
+}
+
+pub returns-in-Err-go_on-clause-crash : goal.returns-in-Err-go_on-clause-crash
+returns-in-Err-go_on-clause-crash g c = λ told files_told node is.
+    let left = c.in-Err-go_on.ensures.crash told files_told (does c.args.sid.number (seen_part c.args.part).deeds node) (so_behind g.F.Files.told g.L.Lines.told (g.R.Rules.setting c.args.rules.now) g.T.Texts.read c.args.sid.number (seen_part c.args.part).deeds
+    (spot c.args.registry.now.entries (g.F.Files.state c.args.files.now).shelf c.args.phase.now c.args.holders.now (g.L.Lines.traffic c.args.lines.now))
+    (spot c.perform.new.registry.entries (g.F.Files.state c.perform.new.files).shelf c.perform.new.phase c.perform.new.holders (g.L.Lines.traffic c.perform.new.lines))
+    c.in-Ok.ensures.done node is) in
+    record {
+      answers = left.answers;
+      moment = left.moment;
+      moments = parts_then c.args.sid.number most_parts (seen_part c.args.part) left.answers node
+          (JointAt (g.D.Disk.state c.args.disk.now) (g.F.Files.state c.args.files.now)) (JointAt (g.D.Disk.state c.perform.new.disk) (g.F.Files.state c.perform.new.files)) (JointAt (g.D.Disk.state c.go_on.new.disk) (g.F.Files.state c.go_on.new.files)) c.args.beat.now c.perform.new.beat c.perform.ensures.beat (c.perform.ensures.moments told files_told node is.stands)
+          left.moments;
+    }
