@@ -3,6 +3,7 @@
 
 mod asking;
 mod behind;
+mod ending;
 mod frame;
 mod given;
 mod going;
@@ -12,6 +13,7 @@ mod rules;
 mod session;
 
 pub use asking::ask;
+pub use ending::{on_end, on_trouble};
 pub use frame::on_frame;
 pub use given::Given;
 pub use law::law_of_rests;
