@@ -1,2 +1,5 @@
+mod Crash
+mod Ends
+mod FirstPart
 mod Parts
 mod Way

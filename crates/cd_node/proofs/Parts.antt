@@ -1,5 +1,5 @@
 -- A part that is done leaves what the next one needs.
-use Rattle.std.proofs.Common.{◌≡◌, ℕ, ◌≤◌, Bool, true, List, [], ◌++◌, Option, Some, refl, sym, ◌∙◌, ap, subst}
+use Rattle.std.proofs.Common.{◌≡◌, ℕ, ◌≤◌, true, List, [], refl, sym, subst}
 use Rattle.std.proofs.lemmas.List.{append-nil}
 use Rattle.cd_entries.specs.declared.entry.Entry.{Entry}
 use Rattle.cd_status.specs.Processes.{latest}
@@ -8,7 +8,7 @@ use Rattle.cd_legal.specs.Promises.{HavePriorities}
 use Rattle.cd_legal.specs.Steps.{Reading}
 use Rattle.cd_moves.specs.declared.session.Phase.{Phase}
 use Rattle.cd_moves.specs.declared.session.Then.{Then}
-use Rattle.cd_moves.specs.Node.{Desk, Node, Deed, Part, Answers, does}
+use Rattle.cd_moves.specs.Node.{Node, Deed, Part, Answers}
 use Rattle.cd_moves.specs.Rows.{part_behind, are_allowed}
 use Rattle.cd_moves.specs.RowsLaw.{checked_fits, part_legal, part_on_time}
 use Rattle.cd_deeds.specs.Stands.{Spot, Stands, WereDone, holder_of}

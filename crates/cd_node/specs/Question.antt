@@ -1,5 +1,5 @@
 -- What is asked of the files before a part, and what an answer is.
-use Rattle.std.specs.Prelude.{◌≡◌, ℕ, List, [], ◌∷◌, length, take, drop, Option, option_map}
+use Rattle.std.specs.Prelude.{◌≡◌, ℕ, List, length, take, drop, Option, option_map}
 use Rattle.cd_outside.specs.Shelf.{Shelf, content_of}
 use Rattle.cd_entries.specs.declared.entry.Entry.{Entry}
 use Rattle.cd_legal.specs.Steps.{Reading, what_at}
@@ -7,7 +7,7 @@ use Rattle.cd_status.specs.Queue.{Waits}
 use Rattle.cd_moves.specs.declared.session.Phase.{Phase}
 use Rattle.cd_moves.specs.declared.session.Then.{Then}
 use Rattle.cd_moves.specs.declared.session.Then.TheVariants.{Done, Next, Undo, Push, Offered, Onto, Piece}
-use Rattle.cd_moves.specs.Node.{Config, Desk, Deed, AskSize, AskBytes, Part, Answers}
+use Rattle.cd_moves.specs.Node.{Config, Desk, Part, Answers}
 use Rattle.cd_moves.specs.Rows.{checked, part_behind, source_in}
 use Rattle.cd_moves.specs.Sending.{piece_len}
 use Rattle.cd_node.specs.declared.rules.Question as told

@@ -1,5 +1,5 @@
 -- The laws of what is left of a row.
-use Rattle.std.proofs.Common.{◌≡◌, ℕ, zero, suc, ◌+◌, ◌≤◌, Bool, true, false, cond, List, [], ◌∷◌, ◌++◌, Option, Some, None, refl, sym, ap, ◌∙◌, arith}
+use Rattle.std.proofs.Common.{◌≡◌, ℕ, zero, suc, ◌+◌, ◌≤◌, Bool, true, false, cond, List, [], ◌∷◌, ◌++◌, Option, Some, None, refl, sym, ap, arith}
 use Rattle.std.specs.Prelude.{nat_le, ◌&&◌, ◌==◌, length}
 use Rattle.std.proofs.lemmas.Bool.{cond-true, cond-false}
 use Rattle.std.proofs.lemmas.List.{append-nil}
@@ -24,7 +24,7 @@ use Rattle.cd_moves.specs.declared.session.Then.{Then}
 use Rattle.cd_moves.specs.declared.session.Then.TheVariants.{Done, Next, Undo, Push, Offered, Onto, Piece}
 use Rattle.cd_moves.specs.Node.{Desk, Node, Deed, Begin, Part, only, does, Answers}
 use Rattle.cd_moves.specs.Closing.{close}
-use Rattle.cd_moves.specs.Sending.{next, next_step, step_at, begin, pull, copy, key_at, push_of, push, piece_len, settled}
+use Rattle.cd_moves.specs.Sending.{next_step, step_at, begin, pull, key_at, push_of, push, piece_len, settled}
 use Rattle.cd_moves.specs.Receiving.{undone, is_new, is_there, kept_base, target_known}
 use Rattle.cd_moves.specs.Rows.{are_allowed, checked, part_behind, asked, is_done, all_parts, offered}
 use Rattle.cd_node.specs.Rest.{part_after, rest, rank, rank_behind}

@@ -1,15 +1,18 @@
 //! The part that comes behind another one.
-ghost use Rattle.std.specs.Prelude.{◌≡◌, ◌≢◌, ◌≤◌, ℕ, true, Err, OnOk, IfOk, IfErr};
+ghost use Rattle.std.specs.Prelude.{◌≡◌, ◌≢◌, ◌⊎◌, ◌≤◌, ℕ, [], true, Err, OnOk, OnErr, IfOk, IfErr};
 ghost use Rattle.cd_outside.specs.Counts.{Rose};
 ghost use Rattle.cd_outside.specs.Disk.{last_of};
 ghost use Rattle.cd_outside.specs.Files.{files_last_of};
 ghost use Rattle.cd_outside.specs.Lines.{NeverFell};
+ghost use Rattle.cd_outside.specs.Moments.{Moments};
 ghost use Rattle.cd_journal.specs.Journal.{length_of};
 ghost use Rattle.cd_status.specs.Processes.{latest};
 ghost use Rattle.cd_legal.specs.Legal.{is_legal};
 ghost use Rattle.cd_legal.specs.Promises.{HavePriorities};
+ghost use Rattle.cd_moves.specs.Node.{Node};
+ghost use Rattle.cd_deeds.specs.Joint.{JointAt, IsWithin};
 ghost use Rattle.cd_deeds.specs.Registry.{IsRegistry};
-ghost use Rattle.cd_deeds.specs.Stands.{spot, WereDone};
+ghost use Rattle.cd_deeds.specs.Stands.{spot, Stands, WereDone, WereCut, IsFaultOfAsking};
 ghost use Rattle.cd_node.specs.Question.{desk_with, question_of, answers_of, IsAnswered, IsTold, part_at};
 
 use crate::asking::ask;
@@ -59,6 +62,22 @@ pub(crate) fn go_behind<T: Texts, R: Rules<T>, D: Disk, F: Files, L: Lines>(
         (spot registry.old.entries (F.state files.old).shelf phase.old holders.old (L.traffic lines.old))
         (spot registry.new.entries (F.state files.new).shelf phase.new holders.new (L.traffic lines.new))) }
     ensures later { IfOk result (λ later. later ≡ (part_at (desk_with (R.setting rules.now) T.read registry.old.entries) phase.old (answers_of now given.new buffer.new.items) then.now).later) }
+
+    // What is done where it fails: nothing, or the part was cut off.
+    ensures stopped { IfErr result (λ fault. (WereDone F.told L.told sid.number []
+        (spot registry.old.entries (F.state files.old).shelf phase.old holders.old (L.traffic lines.old))
+        (spot registry.new.entries (F.state files.new).shelf phase.new holders.new (L.traffic lines.new)) × IsFaultOfAsking fault)
+        ⊎ (IsAnswered (question_of (desk_with (R.setting rules.now) T.read registry.old.entries) then.now) (answers_of now given.old buffer.old.items) (answers_of now given.new buffer.new.items)
+        × WereCut F.told L.told sid.number (part_at (desk_with (R.setting rules.now) T.read registry.old.entries) phase.old (answers_of now given.new buffer.new.items) then.now).deeds fault
+        (spot registry.old.entries (F.state files.old).shelf phase.old holders.old (L.traffic lines.old))
+        (spot registry.new.entries (F.state files.new).shelf phase.new holders.new (L.traffic lines.new)))) }
+
+    // What a crash leaves at each moment.
+    ensures moments { D.told → F.told → OnOk result ((node : Node) → Stands F.told sid.number node (spot registry.old.entries (F.state files.old).shelf phase.old holders.old (L.traffic lines.old))
+        → Moments (JointAt (D.state disk.old) (F.state files.old)) (JointAt (D.state disk.new) (F.state files.new)) beat.old (IsWithin sid.number (part_at (desk_with (R.setting rules.now) T.read registry.old.entries) phase.old (answers_of now given.new buffer.new.items) then.now).deeds node)) }
+    ensures crash { D.told → F.told → OnErr result ((node : Node) → Stands F.told sid.number node (spot registry.old.entries (F.state files.old).shelf phase.old holders.old (L.traffic lines.old))
+        → Moments (JointAt (D.state disk.old) (F.state files.old)) (JointAt (D.state disk.new) (F.state files.new)) beat.old (IsWithin sid.number [] node)
+        ⊎ ((IsAnswered (question_of (desk_with (R.setting rules.now) T.read registry.old.entries) then.now) (answers_of now given.old buffer.old.items) (answers_of now given.new buffer.new.items)) × Moments (JointAt (D.state disk.old) (F.state files.old)) (JointAt (D.state disk.new) (F.state files.new)) beat.old (IsWithin sid.number (part_at (desk_with (R.setting rules.now) T.read registry.old.entries) phase.old (answers_of now given.new buffer.new.items) then.now).deeds node))) }
 
     // What stands then.
     ensures legal { OnOk result (is_legal T.read registry.new.entries ≡ true) }

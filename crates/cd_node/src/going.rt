@@ -1,18 +1,20 @@
 //! All that comes behind a part.
-ghost use Rattle.std.specs.Prelude.{◌≡◌, ◌≢◌, ◌≤◌, ℕ, true, Err, OnOk};
+ghost use Rattle.std.specs.Prelude.{◌≡◌, ◌≢◌, ◌≤◌, ℕ, true, Err, OnOk, OnErr, IfErr};
 ghost use Rattle.cd_outside.specs.Counts.{Rose};
 ghost use Rattle.cd_outside.specs.Disk.{last_of};
 ghost use Rattle.cd_outside.specs.Files.{files_last_of};
 ghost use Rattle.cd_outside.specs.Lines.{NeverFell};
+ghost use Rattle.cd_outside.specs.Moments.{Moments};
 ghost use Rattle.cd_journal.specs.Journal.{length_of};
 ghost use Rattle.cd_status.specs.Processes.{latest};
 ghost use Rattle.cd_legal.specs.Legal.{is_legal};
 ghost use Rattle.cd_legal.specs.Promises.{HavePriorities};
 ghost use Rattle.cd_moves.specs.Node.{Node};
 ghost use Rattle.cd_moves.specs.Rows.{is_done, most_parts};
+ghost use Rattle.cd_deeds.specs.Joint.{JointAt, IsWithin};
 ghost use Rattle.cd_deeds.specs.Registry.{IsRegistry};
 ghost use Rattle.cd_deeds.specs.Stands.{spot, WereDone};
-ghost use Rattle.cd_node.specs.Going.{AreTold, IsSo};
+ghost use Rattle.cd_node.specs.Going.{AreTold, IsSo, RowStopped, MayLeave};
 ghost use Rattle.cd_node.specs.Question.{answers_of};
 ghost use Rattle.cd_node.specs.Rest.{rest};
 
@@ -71,6 +73,17 @@ pub(crate) fn go_on<T: Texts, R: Rules<T>, D: Disk, F: Files, L: Lines>(
         (spot registry.new.entries (F.state files.new).shelf phase.new holders.new (L.traffic lines.new))) }
     ensures told { F.told → OnOk result ((node : Node) → IsSo F.told (R.setting rules.now) T.read sid.number node (spot registry.old.entries (F.state files.old).shelf phase.old holders.old (L.traffic lines.old))
         → AreTold most_parts node sid.number (answers_of now given.new buffer.new.items) then) }
+
+    // What is done where it fails.
+    ensures stopped { IfErr result (λ fault. RowStopped F.told L.told sid.number now fault (λ node answers. rest most_parts node sid.number answers then) (λ node. IsSo F.told (R.setting rules.now) T.read sid.number node (spot registry.old.entries (F.state files.old).shelf phase.old holders.old (L.traffic lines.old)))
+        (spot registry.old.entries (F.state files.old).shelf phase.old holders.old (L.traffic lines.old))
+        (spot registry.new.entries (F.state files.new).shelf phase.new holders.new (L.traffic lines.new))) }
+
+    // What a crash leaves at each moment.
+    ensures moments { D.told → F.told → OnOk result ((node : Node) → IsSo F.told (R.setting rules.now) T.read sid.number node (spot registry.old.entries (F.state files.old).shelf phase.old holders.old (L.traffic lines.old))
+        → Moments (JointAt (D.state disk.old) (F.state files.old)) (JointAt (D.state disk.new) (F.state files.new)) beat.old (IsWithin sid.number (rest most_parts node sid.number (answers_of now given.new buffer.new.items) then) node)) }
+    ensures crash { D.told → F.told → OnErr result ((node : Node) → IsSo F.told (R.setting rules.now) T.read sid.number node (spot registry.old.entries (F.state files.old).shelf phase.old holders.old (L.traffic lines.old))
+        → MayLeave sid.number now (λ answers. rest most_parts node sid.number answers then) node (JointAt (D.state disk.old) (F.state files.old)) (JointAt (D.state disk.new) (F.state files.new)) beat.old) }
 
     // What stands then.
     ensures legal { OnOk result (is_legal T.read registry.new.entries ≡ true) }

@@ -1,12 +1,21 @@
 //! What the rules say, as a program computes it.
-ghost use Rattle.std.specs.Prelude.{◌≡◌, map, IfOk};
+ghost use Rattle.std.specs.Prelude.{◌≡◌, ℕ, List, true, map, IfOk};
+ghost use Rattle.cd_frames.specs.Message.{message_of};
+ghost use Rattle.cd_legal.specs.Legal.{is_legal};
+ghost use Rattle.cd_moves.specs.Closing.{close, trouble};
+ghost use Rattle.cd_moves.specs.Rows.{first_part};
 ghost use Rattle.cd_moves.specs.Seen.{seen_deed, seen_part};
 ghost use Rattle.cd_deeds.specs.Stands.{HaveFormedOrigins};
 ghost use Rattle.cd_node.specs.Question.{Setting, desk_with, seen_question, question_of, answers_of, part_at};
+ghost use Rattle.cd_node.specs.Sessions.{sessions_with};
 
 use crate::given::Given;
+use crate::session::Session;
 use cd_book::{Book, Texts};
-use cd_moves::{Part, Phase, Then};
+use cd_deeds::Holders;
+use cd_frames::Frame;
+use cd_moves::{Deed, Part, Phase, Then};
+use cd_outside::Sid;
 use cd_types::{Moment, NoMemory};
 use std::alloc::Global;
 
@@ -27,6 +36,45 @@ pub enum Question<'a> {
 pub trait Rules<T: Texts> {
     /// What the node is set up with.
     ghost setting: { Self → Setting };
+
+    /// The first part of what is done about a frame of a session, which is at hand in this phase. It submits nothing of
+    /// another Process. The journal is legal.
+    fn first_part<'a>(
+        &self,
+        alloc: Global,
+        book: &Book<T>,
+        others: &[Session],
+        holders: &Holders,
+        now: Moment,
+        sid: Sid,
+        phase: &Phase,
+        frame: &Frame<'a>,
+    ) -> Result<Part<'a>, NoMemory>
+        requires { is_legal T.read (book.now).entries ≡ true }
+        ensures part { (sids : List ℕ) → IfOk result (λ part. seen_part part ≡ first_part (desk_with (setting self.now) T.read (book.now).entries) (sessions_with sids sid.number phase.now others.now holders.now) now sid.number (message_of frame.now)) }
+        ensures origins { IfOk result (λ part. HaveFormedOrigins (map seen_deed part.deeds.items)) };
+
+    /// What is done where a session ends, or a frame comes that is none.
+    fn close<'a>(
+        &self,
+        alloc: Global,
+        book: &Book<T>,
+        now: Moment,
+        phase: &Phase,
+    ) -> Result<Vec<Deed<'a>>, NoMemory>
+        ensures deeds { IfOk result (λ deeds. map seen_deed deeds.items ≡ close (desk_with (setting self.now) T.read (book.now).entries) now phase.now) }
+        ensures origins { IfOk result (λ deeds. HaveFormedOrigins (map seen_deed deeds.items)) };
+
+    /// What is done where the files failed.
+    fn trouble<'a>(
+        &self,
+        alloc: Global,
+        book: &Book<T>,
+        now: Moment,
+        phase: &Phase,
+    ) -> Result<Vec<Deed<'a>>, NoMemory>
+        ensures deeds { IfOk result (λ deeds. map seen_deed deeds.items ≡ trouble (desk_with (setting self.now) T.read (book.now).entries) now phase.now) }
+        ensures origins { IfOk result (λ deeds. HaveFormedOrigins (map seen_deed deeds.items)) };
 
     /// What is asked before the part that comes behind.
     fn asked<'a>(&self, book: &'a Book<T>, then: &'a Then) -> Question<'a>

@@ -2,11 +2,15 @@ use Rattle.std.proofs.Common.{◌≡◌, ◌≤◌, ◌-◌, true}
 use Rattle.cd_outside.specs.Disk.{last_of}
 use Rattle.cd_outside.specs.Files.{files_last_of}
 use Rattle.cd_outside.specs.Lines.{NeverFell}
+use Rattle.cd_outside.specs.Moments.{Moments}
+use Rattle.cd_moves.specs.Node.{Node, Answers}
+use Rattle.cd_deeds.specs.Joint.{JointAt, IsWithin}
 use Rattle.cd_status.specs.Processes.{latest}
 use Rattle.cd_legal.specs.Legal.{is_legal}
 use Rattle.cd_deeds.specs.Registry.{IsRegistry}
 use Rattle.cd_deeds.specs.Stands.{spot}
-use Rattle.cd_node.specs.Going.{IsOnItsWay}
+use Rattle.cd_node.specs.Going.{IsSo, IsOnItsWay}
+use Rattle.cd_node.specs.Rest.{rest, rank, Agrees}
 use Rattle.cd_node.specs.Question.{answers_of}
 use Rattle.cd_node.proofs.going.go_on.Given as goal
 
@@ -15,6 +19,10 @@ invariant-loop-turn g l = record {
   way : IsOnItsWay g.F.Files.told g.L.Lines.told (g.R.Rules.setting l.fn.rules) g.T.Texts.read l.fn.sid.number 1030 (1030 - l._turn) l.fn.then l.later (answers_of l.fn.now l.given l.buffer.items)
       (spot l.fn.registry.entries (g.F.Files.state l.fn.files).shelf l.fn.phase l.fn.holders (g.L.Lines.traffic l.fn.lines))
       (spot l.registry.entries (g.F.Files.state l.files).shelf l.phase l.holders (g.L.Lines.traffic l.lines));
+  moments : g.D.Disk.told → g.F.Files.told → (node : Node)
+      → IsSo g.F.Files.told (g.R.Rules.setting l.fn.rules) g.T.Texts.read l.fn.sid.number node (spot l.fn.registry.entries (g.F.Files.state l.fn.files).shelf l.fn.phase l.fn.holders (g.L.Lines.traffic l.fn.lines))
+      → (answers : Answers) → Agrees answers (answers_of l.fn.now l.given l.buffer.items) (rank l.later)
+      → Moments (JointAt (g.D.Disk.state l.fn.disk) (g.F.Files.state l.fn.files)) (JointAt (g.D.Disk.state l.disk) (g.F.Files.state l.files)) l.fn.beat (IsWithin l.fn.sid.number (rest 1030 node l.fn.sid.number answers l.fn.then) node);
   legal : is_legal g.T.Texts.read l.registry.entries ≡ true;
   on_time : latest l.registry.entries ≤ l.fn.now;
   registry : g.D.Disk.told → IsRegistry l.registry (g.D.Disk.state l.disk);
