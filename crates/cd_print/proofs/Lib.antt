@@ -8,3 +8,6 @@ pub mod Words
 pub mod Fronts
 pub mod Lines
 pub mod Said
+pub mod Stmts
+pub mod Heads
+pub mod Back

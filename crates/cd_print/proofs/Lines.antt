@@ -65,7 +65,7 @@ equals_outside Named e = refl
 equals_outside Opening e = refl
 equals_outside In e = absurd cc
 
-sign_open : sign_of (40 ∷ []) ≡ sign.Open
+pub sign_open : sign_of (40 ∷ []) ≡ sign.Open
 unfolding sign_of
 sign_open = refl
 
@@ -77,7 +77,7 @@ sign_equals : sign_of (61 ∷ []) ≡ sign.Equals
 unfolding sign_of
 sign_equals = refl
 
-sign_comma : sign_of (44 ∷ []) ≡ sign.Comma
+pub sign_comma : sign_of (44 ∷ []) ≡ sign.Comma
 unfolding sign_of
 sign_comma = refl
 

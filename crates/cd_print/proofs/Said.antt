@@ -117,11 +117,11 @@ key_subnode : key_of (codes "SUBNODE") ≡ key.Subnode
 unfolding key_of said_in
 key_subnode = refl
 
-key_snode : key_of (codes "SNODE") ≡ key.Snode
+pub key_snode : key_of (codes "SNODE") ≡ key.Snode
 unfolding key_of said_in
 key_snode = refl
 
-key_prty : key_of (codes "PRTY") ≡ key.Prty
+pub key_prty : key_of (codes "PRTY") ≡ key.Prty
 unfolding key_of said_in
 key_prty = refl
 
@@ -149,27 +149,27 @@ key_exit : key_of (codes "EXIT") ≡ key.Exit
 unfolding key_of said_in
 key_exit = refl
 
-key_pend : key_of (codes "PEND") ≡ key.Pend
+pub key_pend : key_of (codes "PEND") ≡ key.Pend
 unfolding key_of said_in
 key_pend = refl
 
-key_process : key_of (codes "PROCESS") ≡ key.Process
+pub key_process : key_of (codes "PROCESS") ≡ key.Process
 unfolding key_of said_in
 key_process = refl
 
-key_class : key_of (codes "CLASS") ≡ key.Class
+pub key_class : key_of (codes "CLASS") ≡ key.Class
 unfolding key_of said_in
 key_class = refl
 
-key_hold : key_of (codes "HOLD") ≡ key.Hold
+pub key_hold : key_of (codes "HOLD") ≡ key.Hold
 unfolding key_of said_in
 key_hold = refl
 
-key_retain : key_of (codes "RETAIN") ≡ key.Retain
+pub key_retain : key_of (codes "RETAIN") ≡ key.Retain
 unfolding key_of said_in
 key_retain = refl
 
-key_startt : key_of (codes "STARTT") ≡ key.Startt
+pub key_startt : key_of (codes "STARTT") ≡ key.Startt
 unfolding key_of said_in
 key_startt = refl
 
@@ -220,7 +220,7 @@ file_read : (name : List ℕ) → is_file_name name ≡ true → file_in name �
 unfolding file_in
 file_read name e = rw e refl
 
-node_read : (name : List ℕ) → is_node_name name ≡ true → node_in name ≡ Fits name
+pub node_read : (name : List ℕ) → is_node_name name ≡ true → node_in name ≡ Fits name
 unfolding node_in
 node_read name e = rw e refl
 
@@ -300,15 +300,15 @@ disp_begins before disp.New = refl
 disp_begins before disp.Rpl = refl
 disp_begins before disp.Mod = refl
 
-first_is : (a b : Bool) → (a && b) ≡ true → a ≡ true
+pub first_is : (a b : Bool) → (a && b) ≡ true → a ≡ true
 first_is true b e = refl
 first_is false b e = absurd cc
 
-second_is : (a b : Bool) → (a && b) ≡ true → b ≡ true
+pub second_is : (a b : Bool) → (a && b) ≡ true → b ≡ true
 second_is true b e = e
 second_is false b e = absurd cc
 
-up_to : (a b : ℕ) → nat_le a b ≡ true → a ≤ b
+pub up_to : (a b : ℕ) → nat_le a b ≡ true → a ≤ b
 up_to a b e = grind arith
 
 file_given : (given : Given) (at at2 : ℕ) (text : List ℕ) → is_file_name text ≡ true → taken true (with_value given slot.File at (Quoted at2 text)) ≡ Ok (record given { file = Some text })
@@ -419,7 +419,7 @@ module _ (values : PrintedValues) (Q : Reading → Type 0) where
   ckpt_other None rest = refl
   ckpt_other (Some n) rest = refl
 
-  copy_line : (p : Place) (label : Option (ℕ × List ℕ)) (before : Reading) (copy : CopyStep) (kind : PieceKind) (side : Side) (rest : List ℕ) → opening p ≡ Some (label, before) → has_room strict before ≡ true → is_outside side ≡ true
+  pub copy_line : (p : Place) (label : Option (ℕ × List ℕ)) (before : Reading) (copy : CopyStep) (kind : PieceKind) (side : Side) (rest : List ℕ) → opening p ≡ Some (label, before) → has_room strict before ≡ true → is_outside side ≡ true
       → is_file_name copy.from ≡ true → is_file_name copy.to ≡ true → passes is_interval copy.ckpt ≡ true → is_quotable copy.from ≡ true → is_quotable copy.to ≡ true
       → Next Q before label (what.Copy copy) before.ifs rest → Reads (Ends Q p) kind side (what_front (what.Copy copy) (10 ∷ rest))
   unfolding is_word_byte is_blank is_quote is_sign_byte slot_of from_slot to_slot has with_word with_quoted end_in ended
@@ -439,7 +439,7 @@ module _ (values : PrintedValues) (Q : Reading → Type 0) where
       onward (λ ts found. (
         found.0,
         g.copy opens room (g.group refl refl (g.param refl refl (file_given nothing a4 a6 copy.from fits) (g.side refl (source_read copy.push) refl (g.group_end refl
-        (g.group refl refl (g.param refl refl (file_given nothing a11 a13 copy.to fits2) (g.side refl (target_read copy.push) refl (g.param refl refl (disp_given (record nothing { file = Some copy.to; side = Some (tgt copy.push) }) a15 a17 (key_of (disp_word copy.disp)) copy.disp) (g.group_end refl found.1))))))))),
+            (g.group refl refl (g.param refl refl (file_given nothing a11 a13 copy.to fits2) (g.side refl (target_read copy.push) refl (g.param refl refl (disp_given (record nothing { file = Some copy.to; side = Some (tgt copy.push) }) a15 a17 (key_of (disp_word copy.disp)) copy.disp) (g.group_end refl found.1))))))))),
         found.2,
       ))
       (ckpt_line before (begun_at label a1) copy copy.ckpt piece.Sign Out rest fits3 refl
@@ -463,7 +463,7 @@ module _ (values : PrintedValues) (Q : Reading → Type 0) where
     sketched = tt;
   }
 
-  task_line : (p : Place) (label : Option (ℕ × List ℕ)) (before : Reading) (task : TaskStep) (k : TaskKind) (kind : PieceKind) (side : Side) (rest : List ℕ) → task.kind ≡ k → opening p ≡ Some (label, before) → has_room strict before ≡ true → is_outside side ≡ true
+  pub task_line : (p : Place) (label : Option (ℕ × List ℕ)) (before : Reading) (task : TaskStep) (k : TaskKind) (kind : PieceKind) (side : Side) (rest : List ℕ) → task.kind ≡ k → opening p ≡ Some (label, before) → has_room strict before ≡ true → is_outside side ≡ true
       → is_command task.command ≡ true → is_quotable task.command ≡ true
       → Next Q before label (what.Task task) before.ifs rest → Reads (Ends Q p) kind side (codes "RUN" ++ (32 ∷ (work_word k ++ (32 ∷ (side_word task.side ++ (32 ∷ (codes "SYSOPTS" ++ (61 ∷ quoted task.command (restart_front k (10 ∷ rest))))))))))
   unfolding is_word_byte is_blank is_quote is_sign_byte slot_of task_slot job_slot has ended work_of
@@ -508,7 +508,7 @@ module _ (values : PrintedValues) (Q : Reading → Type 0) where
     sketched = like;
   }
 
-  if_line : (p : Place) (label : Option (ℕ × List ℕ)) (before : Reading) (name : List ℕ) (rel : Relation) (n : ℕ) (kind : PieceKind) (side : Side) (rest : List ℕ) → opening p ≡ Some (label, before) → has_room strict before ≡ true
+  pub if_line : (p : Place) (label : Option (ℕ × List ℕ)) (before : Reading) (name : List ℕ) (rel : Relation) (n : ℕ) (kind : PieceKind) (side : Side) (rest : List ℕ) → opening p ≡ Some (label, before) → has_room strict before ≡ true
       → nat_lt (length before.ifs) 16 ≡ true → is_outside side ≡ true → is_label name ≡ true → n ≤ 255
       → Next Q before label (what.If name rel n) (false ∷ before.ifs) rest → Reads (Ends Q p) kind side (what_front (what.If name rel n) (10 ∷ rest))
   unfolding is_word_byte is_blank is_quote is_sign_byte ended
@@ -529,7 +529,7 @@ module _ (values : PrintedValues) (Q : Reading → Type 0) where
       label_other : (w rest2 : List ℕ) → is_label w ≡ true → begins_equal (w ++ rest2) ≡ false
       label_other w rest2 e = plain_other piece.Sign w rest2 (labels_plain w e) (label_begins piece.Sign w e)
 
-  goto_line : (p : Place) (label : Option (ℕ × List ℕ)) (before : Reading) (name : List ℕ) (kind : PieceKind) (side : Side) (rest : List ℕ) → opening p ≡ Some (label, before) → has_room strict before ≡ true → is_outside side ≡ true → is_label name ≡ true
+  pub goto_line : (p : Place) (label : Option (ℕ × List ℕ)) (before : Reading) (name : List ℕ) (kind : PieceKind) (side : Side) (rest : List ℕ) → opening p ≡ Some (label, before) → has_room strict before ≡ true → is_outside side ≡ true → is_label name ≡ true
       → Next Q before label (what.Goto name) before.ifs rest → Reads (Ends Q p) kind side (what_front (what.Goto name) (10 ∷ rest))
   unfolding is_word_byte is_blank is_quote is_sign_byte ended
   goto_line p label before name kind side rest opens room out fits next =
@@ -539,7 +539,7 @@ module _ (values : PrintedValues) (Q : Reading → Type 0) where
       (next _ step.Between _ _ _ refl (empty_follows before label a1 (sketch.Goto a2 name) (what.Goto name) before.ifs refl) (word_outside (key_of name)))
       )))
 
-  exit_line : (p : Place) (label : Option (ℕ × List ℕ)) (before : Reading) (kind : PieceKind) (side : Side) (rest : List ℕ) → opening p ≡ Some (label, before) → has_room strict before ≡ true → is_outside side ≡ true
+  pub exit_line : (p : Place) (label : Option (ℕ × List ℕ)) (before : Reading) (kind : PieceKind) (side : Side) (rest : List ℕ) → opening p ≡ Some (label, before) → has_room strict before ≡ true → is_outside side ≡ true
       → Next Q before label what.Exit before.ifs rest → Reads (Ends Q p) kind side (what_front what.Exit (10 ∷ rest))
   unfolding is_word_byte is_blank is_quote is_sign_byte ended
   exit_line p label before kind side rest opens room out next =
@@ -548,7 +548,7 @@ module _ (values : PrintedValues) (Q : Reading → Type 0) where
       (next _ step.Between _ _ _ refl (empty_follows before label a1 sketch.Exit what.Exit before.ifs tt) refl)
       )
 
-  else_line : (r before : Reading) (s : Step) (more : List Bool) (kind : PieceKind) (side : Side) (rest : List ℕ) → ended r s ≡ Some before → has_room strict before ≡ true → before.ifs ≡ false ∷ more → is_outside side ≡ true
+  pub else_line : (r before : Reading) (s : Step) (more : List Bool) (kind : PieceKind) (side : Side) (rest : List ℕ) → ended r s ≡ Some before → has_room strict before ≡ true → before.ifs ≡ false ∷ more → is_outside side ≡ true
       → Next Q before None what.Else (true ∷ more) rest → Reads (Ends Q (g.At r s)) kind side (what_front what.Else (10 ∷ rest))
   unfolding is_word_byte is_blank is_quote is_sign_byte ended
   else_line r before s more kind side rest ends2 room open2 out next =
@@ -557,7 +557,7 @@ module _ (values : PrintedValues) (Q : Reading → Type 0) where
       (next _ step.Between _ _ _ refl (empty_follows before None a1 sketch.Else what.Else (true ∷ more) tt) refl)
       )
 
-  eif_line : (r before : Reading) (s : Step) (has_else : Bool) (more : List Bool) (kind : PieceKind) (side : Side) (rest : List ℕ) → ended r s ≡ Some before → has_room strict before ≡ true → before.ifs ≡ has_else ∷ more → is_outside side ≡ true
+  pub eif_line : (r before : Reading) (s : Step) (has_else : Bool) (more : List Bool) (kind : PieceKind) (side : Side) (rest : List ℕ) → ended r s ≡ Some before → has_room strict before ≡ true → before.ifs ≡ has_else ∷ more → is_outside side ≡ true
       → Next Q before None what.Eif more rest → Reads (Ends Q (g.At r s)) kind side (what_front what.Eif (10 ∷ rest))
   unfolding is_word_byte is_blank is_quote is_sign_byte ended
   eif_line r before s has_else more kind side rest ends2 room open2 out next =
@@ -649,7 +649,7 @@ module _ (values : PrintedValues) (Q : Reading → Type 0) where
   all_from : (symbols : List (List ℕ × List ℕ)) (submit : SubmitStep) → symbols ≡ [] → with_all [] submit.symbols ≡ submit.symbols → with_all symbols submit.symbols ≡ submit.symbols
   all_from symbols submit e e2 = ap (λ (x : List (List ℕ × List ℕ)). with_all x submit.symbols) e ∙ e2
 
-  submit_line : (p : Place) (label : Option (ℕ × List ℕ)) (before : Reading) (submit : SubmitStep) (kind : PieceKind) (side : Side) (rest : List ℕ) → opening p ≡ Some (label, before) → has_room strict before ≡ true → before.symbols ≡ [] → is_outside side ≡ true
+  pub submit_line : (p : Place) (label : Option (ℕ × List ℕ)) (before : Reading) (submit : SubmitStep) (kind : PieceKind) (side : Side) (rest : List ℕ) → opening p ≡ Some (label, before) → has_room strict before ≡ true → before.symbols ≡ [] → is_outside side ≡ true
       → is_file_name submit.file ≡ true → passes is_node_name submit.snode ≡ true → passes (within 1 15) submit.prty ≡ true → IsQuotable (what.Submit submit)
       → Next Q before label (what.Submit submit) before.ifs rest → Reads (Ends Q p) kind side (what_front (what.Submit submit) (10 ∷ rest))
   unfolding is_word_byte is_blank is_quote is_sign_byte slot_of submit_slot has ended

@@ -60,7 +60,7 @@ node_plain b e = plain_by is_node_byte b e refl refl refl refl refl refl refl re
 label_plain : (b : ℕ) → is_label_byte b ≡ true → is_plain b ≡ true
 label_plain b e = plain_by is_label_byte b e refl refl refl refl refl refl refl refl refl refl refl refl refl refl refl
 
-digit_plain : (b : ℕ) → is_ascii_digit b ≡ true → is_plain b ≡ true
+pub digit_plain : (b : ℕ) → is_ascii_digit b ≡ true → is_plain b ≡ true
 digit_plain b e = plain_by is_ascii_digit b e refl refl refl refl refl refl refl refl refl refl refl refl refl refl refl
 
 not_dash : (test : ℕ → Bool) (before : PieceKind) (b : ℕ) → test b ≡ true → test 45 ≡ false → may_begin before b ≡ true

@@ -1,18 +1,27 @@
-use Rattle.std.specs.Prelude.{ℕ, ◌≤◌, List, length}
+use Rattle.std.specs.Prelude.{◌≡◌, List}
 use Rattle.cd_ast.specs.declared.process.Process.{Process}
 use Rattle.cd_ast.specs.Canonical.{canonical}
-use Rattle.cd_grammar.specs.Faults.{InGrammar, longest_text}
-use Rattle.cd_print.proofs.Symbols.{text_small, text_short}
+use Rattle.cd_grammar.specs.Answers.{strict}
+use Rattle.cd_grammar.specs.Reading.{Reading}
+use Rattle.cd_grammar.specs.Tokens.{tokens_of}
+use Rattle.cd_grammar.specs.Faults.{IsRead, process_of}
+use Rattle.cd_print.specs.Printable.{IsPrintable}
+use Rattle.cd_print.proofs.Said.{PrintedValues}
+use Rattle.cd_print.proofs.Heads.{PrintedStarts}
+use Rattle.cd_print.proofs.Back.{IsBack, print_read, print_clean}
 use Rattle.cd_print.proofs.law.law_of_prints.Goals as goal
 
 pub returns : goal.returns
 returns c = record {
-  short = λ text overrides process said. brief said.plain process said.fits said.says;
-  short_plain = λ text process few said. brief text process few said;
-  symbols = λ text overrides process said. text_small said.plain process (c.law_of_tokens.ensures.order said.plain) said.fits said.says;
-  symbols_plain = λ text process few said. text_small text process (c.law_of_tokens.ensures.order text) few said;
+  read_back = λ process p. back process p (print_read values starts process (c.law_of_tokens.ensures.whole (canonical process)) p);
+  whole = λ process p. print_clean values starts process p;
 }
   where
-    brief : (text : List ℕ) (process : Process) → length text ≤ longest_text → InGrammar text process → length (canonical process) ≤ 200000
-    brief text process few said = text_short text process (c.law_of_tokens.ensures.order text) few said (c.law_of_ranges.ensures.card text process said) (c.law_of_ranges.ensures.name text process said)
-        (c.law_of_ranges.ensures.statements text process said) (c.law_of_ranges.ensures.count text process said)
+    values : PrintedValues
+    values = record { numbers = c.law_of_printed_values.ensures.numbers; intervals = c.law_of_printed_values.ensures.intervals }
+
+    starts : PrintedStarts
+    starts = record { times = c.law_of_printed_values.ensures.times; weekdays = c.law_of_printed_values.ensures.weekdays; dates = c.law_of_printed_values.ensures.dates }
+
+    back : (process : Process) → IsPrintable process → (all : Reading) × IsRead strict (tokens_of (canonical process)) all × IsBack process all → (all : Reading) × IsRead strict (tokens_of (canonical process)) all × (process ≡ process_of all)
+    back process p found = (found.0, found.1, found.2.said)
