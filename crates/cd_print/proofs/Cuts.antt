@@ -41,10 +41,10 @@ unfolding pieces_after
 pieces_skip [] rest kind = refl
 pieces_skip (b ∷ front) rest kind = pieces_skip front rest kind
 
-abbrev Cut : Type 0
+abbrev pub Cut : Type 0
 Cut = PieceKind × ℕ
 
-abbrev cut_as : PieceKind → ℕ → Cut
+abbrev pub cut_as : PieceKind → ℕ → Cut
 cut_as kind n = (kind, n)
 
 front_is : (front rest : List ℕ) (b n : ℕ) → n ≡ suc (length front) → take n (b ∷ (front ++ rest)) ≡ b ∷ front

@@ -11,3 +11,5 @@ pub mod Said
 pub mod Stmts
 pub mod Heads
 pub mod Back
+pub mod Origin
+pub mod Clean
