@@ -13,3 +13,4 @@ pub mod Heads
 pub mod Back
 pub mod Origin
 pub mod Clean
+pub mod FromText

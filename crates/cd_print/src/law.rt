@@ -29,11 +29,13 @@ pub fn law_of_sizes()
 }
 
 /// The tokens of a print are read as the Process that it is of, and none of its pieces is a fault, where the Process has values
-/// in range, texts that can be quoted, and statements that may stand one behind the other.
+/// in range, texts that can be quoted, and statements that may stand one behind the other. Each Process that a text says is so.
 pub fn law_of_prints()
     ensures read_back { (process : Process) → IsPrintable process → (all : Reading) × IsRead strict (tokens_of (canonical process)) all × (process ≡ process_of all) }
     ensures whole { (process : Process) → IsPrintable process → open_from 0 (pieces_of (canonical process)) ≡ None }
+    ensures printable { (text : List ℕ) (process : Process) → InGrammar text process → IsPrintable process }
 {
     law_of_tokens();
     law_of_printed_values();
+    law_of_ranges();
 }

@@ -9,12 +9,14 @@ use Rattle.cd_print.specs.Printable.{IsPrintable}
 use Rattle.cd_print.proofs.Said.{PrintedValues}
 use Rattle.cd_print.proofs.Heads.{PrintedStarts}
 use Rattle.cd_print.proofs.Back.{IsBack, print_read, print_clean}
+use Rattle.cd_print.proofs.FromText.{text_printable}
 use Rattle.cd_print.proofs.law.law_of_prints.Goals as goal
 
 pub returns : goal.returns
 returns c = record {
   read_back = λ process p. back process p (print_read values starts process (c.law_of_tokens.ensures.whole (canonical process)) p);
   whole = λ process p. print_clean values starts process p;
+  printable = λ text process said. text_printable text process (c.law_of_tokens.ensures.whole text) (c.law_of_ranges.ensures.card text process said) (c.law_of_ranges.ensures.name text process said) (c.law_of_ranges.ensures.statements text process said) (c.law_of_ranges.ensures.count text process said) said;
 }
   where
     values : PrintedValues
