@@ -14,3 +14,4 @@ pub mod Back
 pub mod Origin
 pub mod Clean
 pub mod FromText
+pub mod Faultless

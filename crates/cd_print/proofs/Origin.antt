@@ -16,10 +16,12 @@ use Rattle.cd_grammar.specs.declared.token.Key.{Key}
 use Rattle.cd_grammar.specs.declared.token.Sign.{Sign}
 use Rattle.cd_grammar.specs.declared.token.Sign.TheVariants as sign
 use Rattle.cd_grammar.specs.declared.token.Token.{Token}
-use Rattle.cd_grammar.specs.declared.token.Token.TheVariants.{Word, Quoted, Mark}
+use Rattle.cd_grammar.specs.declared.token.Token.TheVariants.{Word, Quoted}
+use Rattle.cd_grammar.specs.declared.token.Token.TheVariants as token
 use Rattle.cd_grammar.specs.declared.given.Given.{Given}
 use Rattle.cd_grammar.specs.declared.given.Slot.{Slot}
 use Rattle.cd_grammar.specs.declared.given.Slot.TheVariants as slot
+use Rattle.cd_grammar.specs.declared.mark.Mark.{Mark}
 use Rattle.cd_grammar.specs.declared.mark.Sketch.{Sketch}
 use Rattle.cd_grammar.specs.declared.mark.Sketch.TheVariants as sketch
 use Rattle.cd_grammar.specs.declared.step.Begun.{Begun}
@@ -50,7 +52,7 @@ use Rattle.cd_print.specs.Printable.{is_quotable, is_symbol_name, are_symbols, w
 abbrev pub IsClean : Token → Type 0
 IsClean (Word at k word) = is_quotable word ≡ true
 IsClean (Quoted at text) = is_quotable text ≡ true
-IsClean (Mark at m) = Unit {0}
+IsClean (token.Mark at m) = Unit {0}
 
 abbrev pub AreClean : List Token → Type 0
 AreClean [] = Unit {0}
@@ -212,7 +214,36 @@ symbol_upper name e =
     both_are (nat_le 1 (length (upper_case name)) && nat_le (length (upper_case name)) 17) _ (ap (λ (n : ℕ). nat_le 1 n && nat_le n 17) long ∙ first_is _ (list_all is_ascii_alphanumeric name) e)
     (alnums_upper name (second_is (nat_le 1 (length name) && nat_le (length name) 17) _ e))
 
+-- marks of statements
+abbrev pub IsSketchOf : Sketch → What → Type 0
+IsSketchOf (sketch.Copy alike) (what.Copy copy) = Unit {0}
+IsSketchOf sketch.Action (what.Task task) = Unit {0}
+IsSketchOf sketch.Action (what.Submit submit) = Unit {0}
+IsSketchOf (sketch.If at name) (what.If label rel n) = name ≡ label
+IsSketchOf sketch.Else what.Else = Unit {0}
+IsSketchOf sketch.Eif what.Eif = Unit {0}
+IsSketchOf (sketch.Goto at name) (what.Goto label) = name ≡ label
+IsSketchOf sketch.Exit what.Exit = Unit {0}
+IsSketchOf _ _ = ⊥
+
+pub record IsMarked (mark : Mark) (stmt : Stmt) : Type 0 where
+  pub label : option_map (λ found. found.1) mark.label ≡ stmt.label
+  pub said : IsSketchOf mark.what stmt.what
+
+abbrev pub AreMarked : List Mark → List Stmt → Type 0
+AreMarked [] [] = Unit {0}
+AreMarked [] (stmt ∷ stmts) = ⊥
+AreMarked (mark ∷ marks) [] = ⊥
+AreMarked (mark ∷ marks) (stmt ∷ stmts) = IsMarked mark stmt × AreMarked marks stmts
+
+marked_more : (ms : List Mark) (stmts : List Stmt) (mark : Mark) (stmt : Stmt) → AreMarked ms stmts → IsMarked mark stmt → AreMarked (ms ++ mark ∷ []) (stmts ++ stmt ∷ [])
+marked_more [] [] mark stmt h e = (e, tt)
+marked_more [] (s ∷ stmts) mark stmt h e = absurd h
+marked_more (m ∷ ms) [] mark stmt h e = absurd h
+marked_more (m ∷ ms) (s ∷ stmts) mark stmt h e = (h.0, marked_more ms stmts mark stmt h.1 e)
+
 pub record FineReading (r : Reading) : Type 0 where
+  pub marks : AreMarked r.marks r.stmts
   pub stmts : AreQuotable r.stmts
   pub symbols : FineSymbols r.symbols
   pub nested : Nests [] r.stmts r.ifs
@@ -310,7 +341,7 @@ quoted_fine given _ text x h q e = absurd cc
 value_fine : (given : Given) (set : Slot) (at : ℕ) (t : Token) (x : Given) → FineGiven given → IsClean t → taken true (with_value given set at t) ≡ Ok x → FineGiven x
 value_fine given set at (Word at2 k word) x h q e = word_fine given set at k word x h q (taken_fits (with_word given set at k word) x e)
 value_fine given set at (Quoted at2 text) x h q e = quoted_fine given set text x h q (taken_fits (with_quoted given set text) x e)
-value_fine given set at (Mark at2 m) x h q e = absurd cc
+value_fine given set at (token.Mark at2 m) x h q e = absurd cc
 
 list_fine : (given : Given) (set : Slot) → FineGiven given → FineGiven (with_list given set)
 unfolding with_list
@@ -347,8 +378,9 @@ end_fine copy ends.From given h e = (e, h.1, h.2)
 end_fine copy ends.To given h e = (h.0, e, h.2)
 
 -- a statement more
-stored_fine : (r : Reading) (begun : Begun) (sketched : Sketch) (said : What) (opened : List Bool) → FineReading r → IsQuotable said → behind said (option_map (λ found. found.1) begun.label) r.ifs ≡ Some opened → FineReading (record (stored r begun sketched said) { ifs = opened })
-stored_fine r begun sketched said opened h q e = record {
+stored_fine : (r : Reading) (begun : Begun) (sketched : Sketch) (said : What) (opened : List Bool) → IsSketchOf sketched said → FineReading r → IsQuotable said → behind said (option_map (λ found. found.1) begun.label) r.ifs ≡ Some opened → FineReading (record (stored r begun sketched said) { ifs = opened })
+stored_fine r begun sketched said opened like h q e = record {
+  marks = marked_more r.marks r.stmts (record { label = begun.label; at = begun.at; what = sketched }) (record { label = option_map (λ found. found.1) begun.label; what = said }) h.marks (record { label = refl; said = like });
   stmts = quotable_more r.stmts _ h.stmts q;
   symbols = (refl, tt);
   nested = nests_more [] r.stmts r.ifs opened _ h.nested e;
@@ -358,11 +390,11 @@ stored_fine r begun sketched said opened h q e = record {
 same_reading : (a b : Reading) → Some a ≡ Some b → a ≡ b
 same_reading a b e = cc
 
-store : (r before : Reading) (begun : Begun) (sketched : Sketch) (said : What) → FineReading r → IsQuotable said → behind said (option_map (λ found. found.1) begun.label) r.ifs ≡ Some r.ifs → Some (stored r begun sketched said) ≡ Some before → FineReading before
-store r before begun sketched said h q e e2 = subst (λ (x : Reading). FineReading x) (same_reading _ before e2) (stored_fine r begun sketched said r.ifs h q e)
+store : (r before : Reading) (begun : Begun) (sketched : Sketch) (said : What) → IsSketchOf sketched said → FineReading r → IsQuotable said → behind said (option_map (λ found. found.1) begun.label) r.ifs ≡ Some r.ifs → Some (stored r begun sketched said) ≡ Some before → FineReading before
+store r before begun sketched said like h q e e2 = subst (λ (x : Reading). FineReading x) (same_reading _ before e2) (stored_fine r begun sketched said r.ifs like h q e)
 
 copied_fine : (r : Reading) (begun : Begun) (from to : Given) (ckpt : Option ℕ) (a b : Option (List ℕ)) (before : Reading) → FineReading r → passes is_quotable a ≡ true → passes is_quotable b ≡ true → copied r begun from to ckpt a b ≡ Some before → FineReading before
-copied_fine r begun from to ckpt (Some a) (Some b) before h ha hb e = store r before begun _ _ h (ha, hb) refl e
+copied_fine r begun from to ckpt (Some a) (Some b) before h ha hb e = store r before begun _ _ tt h (ha, hb) refl e
 copied_fine r begun from to ckpt None b before h ha hb e = absurd cc
 copied_fine r begun from to ckpt (Some a) None before h ha hb e = absurd cc
 
@@ -372,16 +404,16 @@ between_fine r begun ckpt None b before h ha hb e = absurd cc
 between_fine r begun ckpt (Some from) None before h ha hb e = absurd cc
 
 run_fine : (r : Reading) (begun : Begun) (w : Work) (given : Given) (o : Option (List ℕ)) (before : Reading) → FineReading r → passes is_quotable o ≡ true → run r begun w given o ≡ Some before → FineReading before
-run_fine r begun w given (Some command) before h q e = store r before begun _ _ h q refl e
+run_fine r begun w given (Some command) before h q e = store r before begun _ _ tt h q refl e
 run_fine r begun w given None before h q e = absurd cc
 
 submitted_fine : (r : Reading) (begun : Begun) (given : Given) (o : Option (List ℕ)) (before : Reading) → FineReading r → passes is_quotable o ≡ true → submitted r begun given o ≡ Some before → FineReading before
-submitted_fine r begun given (Some file) before h q e = store r before begun _ _ h (q, h.symbols.0, all_same [] r.symbols h.symbols.1) refl e
+submitted_fine r begun given (Some file) before h q e = store r before begun _ _ tt h (q, h.symbols.0, all_same [] r.symbols h.symbols.1) refl e
 submitted_fine r begun given None before h q e = absurd cc
 
 ended_fine : (r before : Reading) (s : Step) → FineReading r → FineStep s → ended r s ≡ Some before → FineReading before
 unfolding ended
-ended_fine r before (step.Head given) h f e = subst (λ (x : Reading). FineReading x) (same_reading _ before e) (record { stmts = h.stmts; symbols = h.symbols; nested = h.nested; start = f.2 })
+ended_fine r before (step.Head given) h f e = subst (λ (x : Reading). FineReading x) (same_reading _ before e) (record { marks = h.marks; stmts = h.stmts; symbols = h.symbols; nested = h.nested; start = f.2 })
 ended_fine r before step.Between h f e = subst (λ (x : Reading). FineReading x) (same_reading _ before e) h
 ended_fine r before (step.Copy begun copy) h f e = between_fine r begun copy.others.ckpt copy.from copy.to before h f.0 f.1 e
 ended_fine r before (step.Group begun copy end given) h f e = absurd cc
@@ -473,6 +505,7 @@ day_is word d e = by_option (said_in named_days word) refl e
 -- what is read of the tokens
 symbol_fine : (r : Reading) (s : Step) (name text : List ℕ) → FineReading r → is_symbol_name name ≡ true → is_quotable text ≡ true → FineReading (with_name r s (upper_case name) text)
 symbol_fine r (step.Submit begun given) name text h e q = record {
+  marks = h.marks;
   stmts = h.stmts;
   symbols = (symbols_more r.symbols (upper_case name) text h.symbols.0 (symbol_upper name e) q, own_more r.symbols (upper_case name) text h.symbols.1 (uppers_twice name));
   nested = h.nested;
@@ -498,13 +531,13 @@ symbol_name (b ∷ bytes) name e = symbol_by (is_symbol_name bytes) (b == 38) by
 text_clean : (value : Token) (text : List ℕ) → IsClean value → text_of value ≡ Some text → is_quotable text ≡ true
 text_clean (Word at k word) text h e = let same : word ≡ text = cc in subst (λ (x : List ℕ). is_quotable x ≡ true) same h
 text_clean (Quoted at bytes) text h e = let same : bytes ≡ text = cc in subst (λ (x : List ℕ). is_quotable x ≡ true) same h
-text_clean (Mark at m) text h e = absurd cc
+text_clean (token.Mark at m) text h e = absurd cc
 
 deep_if : (before : Reading) (at : ℕ) (ifs : List Bool) → has_depth strict at before ≡ true → (if nat_lt (length before.ifs) 16 then Some ifs else None) ≡ Some ifs
 deep_if before at ifs e = rw e refl
 
 pub all_fine : {p : Place} {ts : List Token} {all : Reading} → Rest strict p ts all → AreClean ts → FinePlace p → FineReading all
-all_fine (g.process e rest) q h = all_fine rest q.1.1 (record { stmts = tt; symbols = (refl, tt); nested = refl; start = refl }, nothing_fine)
+all_fine (g.process e rest) q h = all_fine rest q.1.1 (record { marks = tt; stmts = tt; symbols = (refl, tt); nested = refl; start = refl }, nothing_fine)
 all_fine (g.param {step = s} {at = at} {set = set} {value = value} {next = later} e unused fits rest) q h =
     all_fine rest q.1.1.1 (h.0, with_fine s later h.1 (value_fine (given_of s) set at value later (given_fine s h.1) q.1.1.0 fits))
 all_fine (g.in_parentheses {step = s} {at = at} {set = set} {value = value} {next = later} e unused parens fits rest) q h =
@@ -537,14 +570,14 @@ all_fine (g.copy {p = p} {before = before} {named = label} e room rest) q h = al
 all_fine (g.run {p = p} {before = before} {named = label} e room w rest) q h = all_fine rest q.1.1 (opening_fine p label before h e, nothing_fine)
 all_fine (g.submit {p = p} {before = before} {named = label} e room rest) q h = all_fine rest q.1 (opening_fine p label before h e, nothing_fine)
 all_fine (g.if_then {p = p} {before = before} {named = label} {at = at} {at3 = at3} {n = n} {name = name} {relates = relates} e room deep e3 related fits rest) q h =
-    all_fine rest q.1.1.1.1.1.1.1 (stored_fine before (begun_at label at) (sketch.If at3 name) (what.If name relates n) (false ∷ before.ifs) (opening_fine p label before h e) tt (deep_if before at (false ∷ before.ifs) deep), tt)
+    all_fine rest q.1.1.1.1.1.1.1 (stored_fine before (begun_at label at) (sketch.If at3 name) (what.If name relates n) (false ∷ before.ifs) refl (opening_fine p label before h e) tt (deep_if before at (false ∷ before.ifs) deep), tt)
 all_fine (g.else_part {r = r} {before = before} {step = s} {at = at} {ifs = ifs} e room open2 rest) q h =
-    all_fine rest q.1 (stored_fine before (begun_at None at) sketch.Else what.Else (true ∷ ifs) (ended_fine r before s h.0 h.1 e) tt (rw open2 refl), tt)
+    all_fine rest q.1 (stored_fine before (begun_at None at) sketch.Else what.Else (true ∷ ifs) tt (ended_fine r before s h.0 h.1 e) tt (rw open2 refl), tt)
 all_fine (g.eif {r = r} {before = before} {step = s} {at = at} {ifs = ifs} e room open2 rest) q h =
-    all_fine rest q.1 (stored_fine before (begun_at None at) sketch.Eif what.Eif ifs (ended_fine r before s h.0 h.1 e) tt (rw open2 refl), tt)
+    all_fine rest q.1 (stored_fine before (begun_at None at) sketch.Eif what.Eif ifs tt (ended_fine r before s h.0 h.1 e) tt (rw open2 refl), tt)
 all_fine (g.goto {p = p} {before = before} {named = label} {at = at} {at2 = at2} {name = name} e room e2 rest) q h =
-    all_fine rest q.1.1 (stored_fine before (begun_at label at) (sketch.Goto at2 name) (what.Goto name) before.ifs (opening_fine p label before h e) tt refl, tt)
+    all_fine rest q.1.1 (stored_fine before (begun_at label at) (sketch.Goto at2 name) (what.Goto name) before.ifs refl (opening_fine p label before h e) tt refl, tt)
 all_fine (g.exit {p = p} {before = before} {named = label} {at = at} e room rest) q h =
-    all_fine rest q.1 (stored_fine before (begun_at label at) sketch.Exit what.Exit before.ifs (opening_fine p label before h e) tt refl, tt)
+    all_fine rest q.1 (stored_fine before (begun_at label at) sketch.Exit what.Exit before.ifs tt (opening_fine p label before h e) tt refl, tt)
 all_fine (g.pend {r = r} {all = all} {step = s} e) q h = ended_fine r all s h.0 h.1 e
 all_fine (g.pend_semicolon {r = r} {all = all} {step = s} e) q h = ended_fine r all s h.0 h.1 e
