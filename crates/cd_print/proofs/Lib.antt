@@ -15,3 +15,4 @@ pub mod Origin
 pub mod Clean
 pub mod FromText
 pub mod Faultless
+pub mod Again

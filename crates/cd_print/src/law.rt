@@ -4,11 +4,11 @@ ghost use Rattle.std.specs.List.{list_all};
 ghost use Rattle.cd_ast.specs.declared.process.Process.{Process};
 ghost use Rattle.cd_ast.specs.Canonical.{canonical};
 ghost use Rattle.cd_ast.specs.Pieces.{pieces_of};
-ghost use Rattle.cd_ast.specs.Tokens.{open_from};
+ghost use Rattle.cd_ast.specs.Tokens.{open_from, bad_place};
 ghost use Rattle.cd_grammar.specs.Answers.{strict};
 ghost use Rattle.cd_grammar.specs.Reading.{Reading};
 ghost use Rattle.cd_grammar.specs.Tokens.{tokens_of};
-ghost use Rattle.cd_grammar.specs.Faults.{InGrammar, Says, IsRead, process_of, longest_text};
+ghost use Rattle.cd_grammar.specs.Faults.{InGrammar, Says, IsRead, process_of, longest_text, longest_plain};
 ghost use Rattle.cd_print.specs.Sizes.{has_small_symbols};
 ghost use Rattle.cd_print.specs.Printable.{IsPrintable};
 
@@ -29,10 +29,12 @@ pub fn law_of_sizes()
 }
 
 /// The tokens of a print are read as the Process that it is of, and none of its pieces is a fault, where the Process has values
-/// in range, texts that can be quoted, and statements that may stand one behind the other. Each Process that a text says is so.
+/// in range, texts that can be quoted, and statements that may stand one behind the other. Each Process that a text says is so: its
+/// print is a text that says it again, where that isn't too long for a text and each of its bytes is good.
 pub fn law_of_prints()
     ensures read_back { (process : Process) → IsPrintable process → (all : Reading) × IsRead strict (tokens_of (canonical process)) all × (process ≡ process_of all) }
     ensures whole { (process : Process) → IsPrintable process → open_from 0 (pieces_of (canonical process)) ≡ None }
+    ensures again { (text : List ℕ) (process : Process) → InGrammar text process → length (canonical process) ≤ longest_plain → bad_place (canonical process) ≡ length (canonical process) → InGrammar (canonical process) process }
     ensures printable { (text : List ℕ) (process : Process) → InGrammar text process → IsPrintable process }
 {
     law_of_tokens();

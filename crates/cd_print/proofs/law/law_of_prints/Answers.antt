@@ -1,14 +1,15 @@
-use Rattle.std.specs.Prelude.{◌≡◌, List}
+use Rattle.std.specs.Prelude.{◌≡◌, ℕ, List}
 use Rattle.cd_ast.specs.declared.process.Process.{Process}
 use Rattle.cd_ast.specs.Canonical.{canonical}
 use Rattle.cd_grammar.specs.Answers.{strict}
 use Rattle.cd_grammar.specs.Reading.{Reading}
 use Rattle.cd_grammar.specs.Tokens.{tokens_of}
-use Rattle.cd_grammar.specs.Faults.{IsRead, process_of}
+use Rattle.cd_grammar.specs.Faults.{IsRead, process_of, InGrammar}
 use Rattle.cd_print.specs.Printable.{IsPrintable}
 use Rattle.cd_print.proofs.Said.{PrintedValues}
 use Rattle.cd_print.proofs.Heads.{PrintedStarts}
 use Rattle.cd_print.proofs.Back.{IsBack, print_read, print_clean}
+use Rattle.cd_print.proofs.Again.{again}
 use Rattle.cd_print.proofs.FromText.{text_printable}
 use Rattle.cd_print.proofs.law.law_of_prints.Goals as goal
 
@@ -16,7 +17,9 @@ pub returns : goal.returns
 returns c = record {
   read_back = λ process p. back process p (print_read values starts process (c.law_of_tokens.ensures.whole (canonical process)) p);
   whole = λ process p. print_clean values starts process p;
-  printable = λ text process said. text_printable text process (c.law_of_tokens.ensures.whole text) (c.law_of_ranges.ensures.card text process said) (c.law_of_ranges.ensures.name text process said) (c.law_of_ranges.ensures.statements text process said) (c.law_of_ranges.ensures.count text process said) said;
+  again = λ text process said short good. again text process (c.law_of_tokens.ensures.whole text) said short good (print_clean values starts process (printable text process said))
+      (print_read values starts process (c.law_of_tokens.ensures.whole (canonical process)) (printable text process said));
+  printable = printable;
 }
   where
     values : PrintedValues
@@ -27,3 +30,6 @@ returns c = record {
 
     back : (process : Process) → IsPrintable process → (all : Reading) × IsRead strict (tokens_of (canonical process)) all × IsBack process all → (all : Reading) × IsRead strict (tokens_of (canonical process)) all × (process ≡ process_of all)
     back process p found = (found.0, found.1, found.2.said)
+
+    printable : (text : List ℕ) (process : Process) → InGrammar text process → IsPrintable process
+    printable text process said = text_printable text process (c.law_of_tokens.ensures.whole text) (c.law_of_ranges.ensures.card text process said) (c.law_of_ranges.ensures.name text process said) (c.law_of_ranges.ensures.statements text process said) (c.law_of_ranges.ensures.count text process said) said
