@@ -35,9 +35,11 @@ pub fn law_of_prints()
     ensures read_back { (process : Process) → IsPrintable process → (all : Reading) × IsRead strict (tokens_of (canonical process)) all × (process ≡ process_of all) }
     ensures whole { (process : Process) → IsPrintable process → open_from 0 (pieces_of (canonical process)) ≡ None }
     ensures again { (text : List ℕ) (process : Process) → InGrammar text process → length (canonical process) ≤ longest_plain → bad_place (canonical process) ≡ length (canonical process) → InGrammar (canonical process) process }
+    ensures again_resolved { (text : List ℕ) (overrides : List (List ℕ × List ℕ)) (process : Process) → Says text overrides process → bad_place (canonical process) ≡ length (canonical process) → InGrammar (canonical process) process }
     ensures printable { (text : List ℕ) (process : Process) → InGrammar text process → IsPrintable process }
 {
     law_of_tokens();
     law_of_printed_values();
     law_of_ranges();
+    law_of_sizes();
 }

@@ -1,10 +1,12 @@
-use Rattle.std.specs.Prelude.{◌≡◌, ℕ, List}
+use Rattle.std.proofs.Common.{arith}
+use Rattle.std.specs.Prelude.{◌≡◌, ◌≤◌, ℕ, List, length}
+use Rattle.cd_ast.specs.Tokens.{bad_place}
 use Rattle.cd_ast.specs.declared.process.Process.{Process}
 use Rattle.cd_ast.specs.Canonical.{canonical}
 use Rattle.cd_grammar.specs.Answers.{strict}
 use Rattle.cd_grammar.specs.Reading.{Reading}
 use Rattle.cd_grammar.specs.Tokens.{tokens_of}
-use Rattle.cd_grammar.specs.Faults.{IsRead, process_of, InGrammar}
+use Rattle.cd_grammar.specs.Faults.{IsRead, process_of, InGrammar, longest_plain}
 use Rattle.cd_print.specs.Printable.{IsPrintable}
 use Rattle.cd_print.proofs.Said.{PrintedValues}
 use Rattle.cd_print.proofs.Heads.{PrintedStarts}
@@ -17,8 +19,8 @@ pub returns : goal.returns
 returns c = record {
   read_back = λ process p. back process p (print_read values starts process (c.law_of_tokens.ensures.whole (canonical process)) p);
   whole = λ process p. print_clean values starts process p;
-  again = λ text process said short good. again text process (c.law_of_tokens.ensures.whole text) said short good (print_clean values starts process (printable text process said))
-      (print_read values starts process (c.law_of_tokens.ensures.whole (canonical process)) (printable text process said));
+  again = anew;
+  again_resolved = λ text overrides process said good. anew said.plain process said.says (small process (c.law_of_sizes.ensures.short text overrides process said)) good;
   printable = printable;
 }
   where
@@ -33,3 +35,10 @@ returns c = record {
 
     printable : (text : List ℕ) (process : Process) → InGrammar text process → IsPrintable process
     printable text process said = text_printable text process (c.law_of_tokens.ensures.whole text) (c.law_of_ranges.ensures.card text process said) (c.law_of_ranges.ensures.name text process said) (c.law_of_ranges.ensures.statements text process said) (c.law_of_ranges.ensures.count text process said) said
+
+    anew : (text : List ℕ) (process : Process) → InGrammar text process → length (canonical process) ≤ longest_plain → bad_place (canonical process) ≡ length (canonical process) → InGrammar (canonical process) process
+    anew text process said short good = again text process (c.law_of_tokens.ensures.whole text) said short good (print_clean values starts process (printable text process said))
+        (print_read values starts process (c.law_of_tokens.ensures.whole (canonical process)) (printable text process said))
+
+    small : (process : Process) → length (canonical process) ≤ 200000 → length (canonical process) ≤ longest_plain
+    small process h = omega arith
