@@ -1,11 +1,9 @@
 -- A print is a text of its Process.
-use Rattle.std.proofs.Common.{◌≡◌, ℕ, ◌≤◌, Bool, true, false, List, [], ◌++◌, length, Option, Some, None, refl, ap, sym, subst, ◌∙◌, arith, nat_lt, if◌then◌else◌}
-use Rattle.cd_types.specs.declared.choices.Retain.TheVariants as retain
+use Rattle.std.proofs.Common.{◌≡◌, ℕ, ◌≤◌, false, List, [], ◌++◌, length, Some, None, refl, sym, subst, arith, nat_lt}
 use Rattle.cd_ast.specs.declared.process.Process.{Process}
 use Rattle.cd_ast.specs.Canonical.{canonical}
 use Rattle.cd_ast.specs.Pieces.{pieces_of, bytes_of}
-use Rattle.cd_ast.specs.Tokens.{open_from, flaw_of, bad_place, earlier}
-use Rattle.cd_ast.specs.declared.fault.FaultName.{FaultName}
+use Rattle.cd_ast.specs.Tokens.{open_from, flaw_of, bad_place}
 use Rattle.cd_grammar.specs.declared.given.Given.{Given}
 use Rattle.cd_grammar.specs.Answers.{strict}
 use Rattle.cd_grammar.specs.Reading.{Reading}
@@ -15,7 +13,6 @@ use Rattle.cd_grammar.specs.Faults.{InGrammar, IsRead, process_of, longest_plain
 use Rattle.cd_print.proofs.Back.{IsBack}
 use Rattle.cd_print.proofs.Clean.{text_clean}
 use Rattle.cd_print.proofs.Faultless.{no_fault}
-use Rattle.cd_print.proofs.Heads.{card_given}
 use Rattle.cd_print.proofs.Origin.{FineReading, all_fine}
 use Rattle.cd_print.proofs.Stmts.{AreFine}
 

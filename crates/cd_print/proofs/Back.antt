@@ -1,28 +1,26 @@
 -- The print of a Process is read as that Process.
-use Rattle.std.proofs.Common.{◌≡◌, ℕ, ◌+◌, ◌≤◌, Bool, true, false, ◌&&◌, List, [], ◌∷◌, ◌++◌, length, Option, Some, None, refl, ap, sym, subst, ◌∙◌, arith, map}
+use Rattle.std.proofs.Common.{◌≡◌, ℕ, ◌+◌, ◌≤◌, Bool, true, List, [], length, None, refl, ap, sym, subst, ◌∙◌, arith}
 use Rattle.cd_types.specs.Label.{is_label}
 use Rattle.cd_types.specs.NodeName.{is_node_name}
-use Rattle.cd_types.specs.declared.choices.Hold.TheVariants as hold
-use Rattle.cd_types.specs.declared.choices.Retain.TheVariants as retain
 use Rattle.cd_ast.specs.declared.piece.PieceKind.TheVariants as piece
 use Rattle.cd_ast.specs.declared.process.Process.{Process}
 use Rattle.cd_ast.specs.declared.process.Stmt.{Stmt}
 use Rattle.cd_ast.specs.Canonical.{canonical}
-use Rattle.cd_ast.specs.Pieces.{pieces_of, pieces_after, bytes_of}
-use Rattle.cd_ast.specs.Tokens.{open_from, spans_of, spans_from}
+use Rattle.cd_ast.specs.Pieces.{pieces_of, bytes_of}
+use Rattle.cd_ast.specs.Tokens.{open_from}
 use Rattle.cd_grammar.specs.declared.given.Given.{Given}
 use Rattle.cd_grammar.specs.declared.step.Step.TheVariants as step
 use Rattle.cd_grammar.specs.declared.token.Token.{Token}
 use Rattle.cd_grammar.specs.Answers.{strict}
 use Rattle.cd_grammar.specs.Grammar as g
-use Rattle.cd_grammar.specs.Reading.{Reading, named, ended, or_default}
-use Rattle.cd_grammar.specs.Tokens.{Out, token_of, without_commas, tokens_of}
+use Rattle.cd_grammar.specs.Reading.{Reading, named, ended}
+use Rattle.cd_grammar.specs.Tokens.{Out, without_commas, tokens_of}
 use Rattle.cd_grammar.specs.Faults.{process_of, IsRead}
-use Rattle.cd_machine.specs.Ranges.{passes, within, is_timed, is_card}
+use Rattle.cd_machine.specs.Ranges.{passes, within, is_timed}
 use Rattle.cd_print.specs.Printable.{IsPrintable}
-use Rattle.cd_print.proofs.Cuts.{tokens_from, spans_are}
+use Rattle.cd_print.proofs.Cuts.{spans_are}
 use Rattle.cd_print.proofs.Tails.{Reads, tail}
-use Rattle.cd_print.proofs.Fronts.{print_front, print_is, stmts_front}
+use Rattle.cd_print.proofs.Fronts.{print_front, print_is}
 use Rattle.cd_print.proofs.Said.{PrintedValues, Ends, first_is}
 use Rattle.cd_print.proofs.Stmts.{AreFine, Stands, stmts_line}
 use Rattle.cd_print.proofs.Heads.{PrintedStarts, card_given, head_line}

@@ -1,14 +1,13 @@
 -- No token of a text has both quotes in its text.
-use Rattle.std.proofs.Common.{◌≡◌, ℕ, zero, suc, ◌+◌, ◌-◌, ◌<◌, ◌≤◌, Bool, true, false, not, ◌&&◌, ◌||◌, List, [], ◌∷◌, ◌++◌, length, take, drop, length-take, Option, refl, ap, sym, subst, ◌∙◌, arith, if◌then◌else◌, nat_lt, add-one, map}
+use Rattle.std.proofs.Common.{◌≡◌, ℕ, zero, suc, ◌+◌, ◌-◌, ◌<◌, Bool, true, false, not, ◌&&◌, ◌||◌, List, [], ◌∷◌, length, take, drop, length-take, refl, ap, sym, subst, ◌∙◌, arith, if◌then◌else◌, nat_lt, add-one}
 use Rattle.std.specs.Prelude.{◌==◌}
-use Rattle.std.specs.List.{list_any}
 use Rattle.cd_ast.specs.declared.piece.PieceKind.{PieceKind}
 use Rattle.cd_ast.specs.declared.piece.PieceKind.TheVariants as piece
 use Rattle.cd_ast.specs.Bytes.{is_blank, is_quote, is_sign_byte, is_word_byte, is_double_sign, opens_comment, closes_comment}
 use Rattle.cd_ast.specs.Pieces.{Piece, run_len, ends_line, ends_quote, ends_word, is_gap, is_line_end, is_rest_blank, comment_at, quote_at, sign_at, word_at, piece_at, pieces_after, pieces_of, bytes_of}
-use Rattle.cd_ast.specs.Tokens.{is_token, spans_of}
+use Rattle.cd_ast.specs.Tokens.{is_token}
 use Rattle.cd_grammar.specs.declared.token.Token.{Token}
-use Rattle.cd_grammar.specs.Tokens.{Side, Out, inside, seen_token, token_of, behind, is_blank_comma, without_commas, tokens_of}
+use Rattle.cd_grammar.specs.Tokens.{Side, Out, inside, seen_token, behind, is_blank_comma, without_commas, tokens_of}
 use Rattle.cd_print.specs.Printable.{is_quotable}
 use Rattle.cd_print.proofs.Cuts.{tokens_from, spans_are, has_byte, Cut, cut_as}
 use Rattle.cd_print.proofs.Origin.{IsClean, AreClean}

@@ -1,6 +1,5 @@
 -- A print has no fault in its meaning where the text of its Process has none.
-use Rattle.std.proofs.Common.{◌≡◌, ℕ, zero, suc, Bool, true, false, not, ◌&&◌, ◌||◌, List, [], ◌∷◌, ◌++◌, Option, Some, None, refl, ap, sym, subst, ◌∙◌, if◌then◌else◌}
-use Rattle.std.specs.List.{list_any}
+use Rattle.std.proofs.Common.{◌≡◌, ℕ, zero, suc, Bool, true, false, not, ◌&&◌, List, [], ◌∷◌, ◌++◌, Option, Some, None, refl, ap, sym, ◌∙◌}
 use Rattle.std.specs.Option.{option_map}
 use Rattle.std.specs.Str.{bytes_eq}
 use Rattle.cd_types.specs.declared.choices.Retain.{Retain}
@@ -14,10 +13,10 @@ use Rattle.cd_ast.specs.declared.process.What.TheVariants as what
 use Rattle.cd_grammar.specs.declared.mark.Mark.{Mark}
 use Rattle.cd_grammar.specs.declared.mark.Sketch.{Sketch}
 use Rattle.cd_grammar.specs.declared.mark.Sketch.TheVariants.{Copy, Action, If, Else, Eif, Goto, Exit}
-use Rattle.cd_grammar.specs.Later.{Found, is_label, is_named, is_action, have_label, have_action, open_behind, is_eif, is_none, is_closed, is_inside, fault_if, doubled, wrong_here, wrong_from, wrong_start}
+use Rattle.cd_grammar.specs.Later.{Found, is_label, is_action, have_label, have_action, open_behind, is_eif, is_closed, is_inside, fault_if, doubled, wrong_here, wrong_from, wrong_start}
 use Rattle.cd_grammar.specs.Reading.{or_default}
 use Rattle.cd_print.proofs.Origin.{IsMarked, AreMarked}
-use Rattle.cd_print.proofs.Stmts.{IsFine, AreFine}
+use Rattle.cd_print.proofs.Stmts.{AreFine}
 
 -- two sketches of the same, of which the second has no fault of its own
 abbrev Same : Sketch → Sketch → Type 0

@@ -2,7 +2,7 @@
 use Rattle.std.proofs.Common.{◌≡◌, ℕ, ◌≤◌, true, List, [], length, sym, subst}
 use Rattle.cd_ast.specs.declared.process.Process.{Process}
 use Rattle.cd_ast.specs.Pieces.{pieces_of, bytes_of}
-use Rattle.cd_grammar.specs.Faults.{InGrammar, process_of}
+use Rattle.cd_grammar.specs.Faults.{InGrammar}
 use Rattle.cd_machine.specs.Ranges.{passes, is_card, are_stmts}
 use Rattle.cd_print.specs.Printable.{IsPrintable, AreQuotable, AreNested, is_day}
 use Rattle.cd_print.proofs.Clean.{text_clean}

@@ -1,5 +1,5 @@
 -- What a text says can be printed.
-use Rattle.std.proofs.Common.{◌≡◌, ℕ, ◌+◌, ◌-◌, ◌*◌, ◌<◌, ◌≤◌, Bool, true, false, ◌&&◌, List, [], ◌∷◌, ◌++◌, length, Option, Some, None, Ok, not, ◌||◌, sym, ◌∙◌, append_assoc, nat_lt, nat_eq, append-nil, map, refl, ap, subst, arith, if◌then◌else◌, nat_le}
+use Rattle.std.proofs.Common.{◌≡◌, ℕ, ◌+◌, ◌-◌, ◌*◌, ◌<◌, ◌≤◌, Bool, true, false, ◌&&◌, List, [], ◌∷◌, ◌++◌, length, Option, Some, None, Ok, ◌||◌, sym, ◌∙◌, append_assoc, nat_lt, nat_eq, append-nil, refl, ap, subst, arith, if◌then◌else◌, nat_le}
 use Rattle.std.specs.Str.{bytes_eq}
 use Rattle.std.specs.Char.{is_ascii_alphanumeric}
 use Rattle.std.specs.List.{list_all, list_any}
@@ -13,8 +13,6 @@ use Rattle.cd_ast.specs.declared.process.Stmt.{Stmt}
 use Rattle.cd_ast.specs.declared.process.What.{What}
 use Rattle.cd_ast.specs.declared.process.What.TheVariants as what
 use Rattle.cd_grammar.specs.declared.token.Key.{Key}
-use Rattle.cd_grammar.specs.declared.token.Sign.{Sign}
-use Rattle.cd_grammar.specs.declared.token.Sign.TheVariants as sign
 use Rattle.cd_grammar.specs.declared.token.Token.{Token}
 use Rattle.cd_grammar.specs.declared.token.Token.TheVariants.{Word, Quoted}
 use Rattle.cd_grammar.specs.declared.token.Token.TheVariants as token
@@ -31,7 +29,7 @@ use Rattle.cd_grammar.specs.declared.step.End.TheVariants as ends
 use Rattle.cd_grammar.specs.declared.step.Step.{Step}
 use Rattle.cd_grammar.specs.declared.step.Work.{Work}
 use Rattle.cd_grammar.specs.declared.step.Step.TheVariants as step
-use Rattle.cd_grammar.specs.Answers.{Answer, Fits, Outside, Wrong, fits_as, ranged, wanted, strict, taken}
+use Rattle.cd_grammar.specs.Answers.{Answer, Fits, Outside, Wrong, fits_as, ranged, strict, taken}
 use Rattle.cd_grammar.specs.Values.{file_in, node_in, number_in, interval_in, symbol_in, is_share, is_command, are_items}
 use Rattle.cd_grammar.specs.Given.{nothing, with_word, with_quoted, with_value, with_list, shared}
 use Rattle.cd_grammar.specs.Reading.{Reading, stored, copied, copied_between, run, submitted, ended, given_of, with_given, with_end, with_name}
@@ -39,14 +37,12 @@ use Rattle.cd_grammar.specs.Grammar.{Place, Start, Rest, started, begun_at, open
 use Rattle.cd_grammar.specs.Grammar as g
 use Rattle.std.specs.Option.{option_map}
 use Rattle.cd_types.specs.declared.start.Day.TheVariants as day
-use Rattle.cd_grammar.specs.Values.{has_reference}
 use Rattle.cd_grammar.specs.Starts.{day_in, date_in, named_days, two, are_two}
 use Rattle.cd_grammar.specs.Words.{said_in, or_else, is_word}
-use Rattle.cd_grammar.specs.Reading.{has_depth, has_room}
+use Rattle.cd_grammar.specs.Reading.{has_depth}
 use Rattle.cd_machine.specs.Ranges.{passes}
 use Rattle.std.specs.Char.{is_ascii_digit}
-use Rattle.std.specs.Prelude.{codes}
-use Rattle.cd_print.specs.Printable.{is_quotable, is_symbol_name, are_symbols, with_all, IsQuotable, AreQuotable, behind, behind_else, behind_eif, AreNested, is_day}
+use Rattle.cd_print.specs.Printable.{is_quotable, is_symbol_name, are_symbols, with_all, IsQuotable, AreQuotable, behind, AreNested, is_day}
 
 -- a token's text can be quoted
 abbrev pub IsClean : Token → Type 0

@@ -1,10 +1,10 @@
 -- What is printed of a statement is read as that statement.
-use Rattle.std.proofs.Common.{◌≡◌, ℕ, ◌+◌, ◌*◌, ◌/◌, ◌%◌, ◌<◌, ◌≤◌, Bool, true, false, not, ◌&&◌, ◌||◌, List, [], ◌∷◌, ◌++◌, length, length-append, Option, Some, None, Ok, refl, ap, sym, subst, ◌∙◌, arith, nat_le, nat_lt, nat_eq, if◌then◌else◌}
+use Rattle.std.proofs.Common.{◌≡◌, ℕ, ◌*◌, ◌/◌, ◌%◌, ◌<◌, ◌≤◌, Bool, true, false, ◌&&◌, List, [], ◌∷◌, ◌++◌, length, length-append, Option, Some, None, Ok, refl, ap, sym, ◌∙◌, arith, nat_le, nat_lt, if◌then◌else◌}
 use Rattle.std.specs.Prelude.{◌==◌, codes}
 use Rattle.std.specs.Option.{option_map}
-use Rattle.std.specs.Char.{is_ascii_digit, is_ascii_alphanumeric}
+use Rattle.std.specs.Char.{is_ascii_digit}
 use Rattle.std.specs.Fmt.{decimal}
-use Rattle.std.specs.List.{list_all, list_any}
+use Rattle.std.specs.List.{list_all}
 use Rattle.std.proofs.lemmas.List.Folds.{list_all-append}
 use Rattle.cd_types.specs.FileName.{is_file_name}
 use Rattle.cd_types.specs.Label.{is_label}
@@ -19,10 +19,9 @@ use Rattle.cd_types.specs.declared.choices.Side.TheVariants as side
 use Rattle.cd_types.specs.declared.choices.TaskKind.{TaskKind}
 use Rattle.cd_types.specs.declared.choices.TaskKind.TheVariants as kind
 use Rattle.cd_ast.specs.Bytes.{is_blank, is_quote, is_sign_byte, is_word_byte}
-use Rattle.cd_ast.specs.Canonical.{quote_of, side_word, disp_word, relation_sign, source_word, target_word}
+use Rattle.cd_ast.specs.Canonical.{side_word, disp_word, relation_sign, source_word, target_word}
 use Rattle.cd_ast.specs.declared.piece.PieceKind.{PieceKind}
 use Rattle.cd_ast.specs.declared.piece.PieceKind.TheVariants as piece
-use Rattle.cd_ast.specs.declared.process.Stmt.{Stmt}
 use Rattle.cd_ast.specs.declared.process.What.{What}
 use Rattle.cd_ast.specs.declared.process.What.TheVariants as what
 use Rattle.cd_ast.specs.declared.process.CopyStep.{CopyStep}
@@ -30,7 +29,6 @@ use Rattle.cd_ast.specs.declared.process.TaskStep.{TaskStep}
 use Rattle.cd_ast.specs.declared.process.SubmitStep.{SubmitStep}
 use Rattle.cd_grammar.specs.declared.token.Key.{Key}
 use Rattle.cd_grammar.specs.declared.token.Key.TheVariants as key
-use Rattle.cd_grammar.specs.declared.token.Sign.TheVariants as sign
 use Rattle.cd_grammar.specs.declared.token.Token.{Token}
 use Rattle.cd_grammar.specs.declared.token.Token.TheVariants.{Word, Quoted, Mark}
 use Rattle.cd_grammar.specs.declared.given.Given.{Given}
@@ -42,23 +40,22 @@ use Rattle.cd_grammar.specs.declared.step.Begun.{Begun}
 use Rattle.cd_grammar.specs.declared.step.CopyGiven.{CopyGiven}
 use Rattle.cd_grammar.specs.declared.step.Step.{Step}
 use Rattle.cd_grammar.specs.declared.step.Step.TheVariants as step
-use Rattle.cd_grammar.specs.declared.step.Work.{Work}
 use Rattle.cd_grammar.specs.declared.step.Work.TheVariants as work
-use Rattle.cd_grammar.specs.Answers.{Answer, Fits, fits_as, ranged, wanted, strict, taken}
+use Rattle.cd_grammar.specs.Answers.{Answer, Fits, strict, taken}
 use Rattle.cd_grammar.specs.Given.{nothing, has, side_of, with_word, with_quoted, with_value, from_slot, to_slot, copy_slot, task_slot, job_slot, submit_slot}
 use Rattle.cd_grammar.specs.Grammar.{Place, Rest, opening, before_it, begun_at, end_in, work_of, relation_of}
 use Rattle.cd_grammar.specs.Grammar as g
-use Rattle.cd_grammar.specs.Reading.{Reading, stored, ended, slot_of, has_room, has_depth, is_pnode, are_same, kind_of}
-use Rattle.cd_grammar.specs.Tokens.{Side, Out, Named, Opening, In, behind_word, behind_sign}
+use Rattle.cd_grammar.specs.Reading.{Reading, stored, ended, slot_of, has_room, is_pnode, are_same}
+use Rattle.cd_grammar.specs.Tokens.{Side, Out}
 use Rattle.cd_grammar.specs.Values.{number_in, interval_in, symbol_in, file_in, node_in, is_command, disp_in, restart_in}
 use Rattle.cd_grammar.specs.Words.{key_of, sign_of, said_in}
 use Rattle.cd_machine.specs.Ranges.{passes, within, is_interval}
 use Rattle.cd_print.specs.Printable.{is_quotable, is_symbol_name, are_symbols, with_all, IsQuotable}
 use Rattle.cd_print.proofs.Cuts.{is_plain, begins_well, stops, begins_equal}
-use Rattle.cd_print.proofs.Tails.{Reads, onward, on_blank, on_line, on_word, on_quoted, is_outside}
-use Rattle.cd_print.proofs.Words.{word_outside, label_read, front_read, fits_taken, labels_plain, label_begins, nodes_plain, node_begins, number_digits, digits_plain, digits_begin, all_by, alnums_plain}
-use Rattle.cd_print.proofs.Fronts.{quoted, interval_word, ckpt_front, snode_front, prty_front, symbols_front, work_word, restart_front, what_front, label_front}
-use Rattle.cd_print.proofs.Lines.{on_close, on_equals, on_open, on_pair, on_text, on_relation, plain_other}
+use Rattle.cd_print.proofs.Tails.{Reads, onward, on_blank, on_word, is_outside}
+use Rattle.cd_print.proofs.Words.{word_outside, label_read, fits_taken, labels_plain, label_begins, nodes_plain, node_begins, number_digits, digits_plain, digits_begin, alnums_plain}
+use Rattle.cd_print.proofs.Fronts.{quoted, interval_word, ckpt_front, snode_front, prty_front, symbols_front, work_word, restart_front, what_front}
+use Rattle.cd_print.proofs.Lines.{on_close, on_open, on_pair, on_text, on_relation, plain_other}
 
 -- what is known of printed values
 pub record PrintedValues : Type 0 where
