@@ -16,3 +16,4 @@ pub mod Clean
 pub mod FromText
 pub mod Faultless
 pub mod Again
+pub mod Bytes
