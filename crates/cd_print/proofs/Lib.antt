@@ -17,3 +17,5 @@ pub mod FromText
 pub mod Faultless
 pub mod Again
 pub mod Bytes
+pub mod Texts
+pub mod Prints
