@@ -1,5 +1,5 @@
 -- A whole print has good bytes where the texts of its statements have.
-use Rattle.std.proofs.Common.{◌≡◌, ℕ, ◌+◌, ◌/◌, ◌%◌, ◌<◌, ◌≤◌, Bool, true, false, not, ◌&&◌, ◌||◌, List, [], ◌∷◌, ◌++◌, length, Option, Some, None, refl, ap, sym, subst, ◌∙◌, arith, if◌then◌else◌, nat_le, nat_lt}
+use Rattle.std.proofs.Common.{◌≡◌, ℕ, ◌+◌, ◌/◌, ◌%◌, ◌<◌, ◌≤◌, Bool, true, false, not, ◌&&◌, ◌||◌, List, [], ◌∷◌, ◌++◌, length, zero, suc, Option, Some, None, refl, ap, sym, subst, ◌∙◌, arith, if◌then◌else◌, nat_le, nat_lt}
 use Rattle.std.specs.Prelude.{◌==◌, codes}
 use Rattle.std.specs.Char.{is_ascii_digit, is_ascii_alphanumeric}
 use Rattle.std.specs.Fmt.{decimal}
@@ -9,6 +9,15 @@ use Rattle.cd_types.specs.Label.{is_label, is_label_byte, begins_with_letter}
 use Rattle.cd_types.specs.NodeName.{is_node_name, is_node_byte}
 use Rattle.cd_types.specs.declared.choices.Disp.TheVariants as disp
 use Rattle.cd_types.specs.declared.choices.Disp.{Disp}
+use Rattle.cd_types.specs.declared.choices.Hold.{Hold}
+use Rattle.cd_types.specs.declared.choices.Hold.TheVariants as hold
+use Rattle.cd_types.specs.declared.choices.Retain.{Retain}
+use Rattle.cd_types.specs.declared.choices.Retain.TheVariants as retain
+use Rattle.cd_types.specs.declared.start.Card.{Card}
+use Rattle.cd_types.specs.declared.start.Day.{Day}
+use Rattle.cd_types.specs.declared.start.Day.TheVariants as day
+use Rattle.cd_types.specs.declared.start.Start.{Start}
+use Rattle.cd_ast.specs.declared.process.Process.{Process}
 use Rattle.cd_types.specs.declared.choices.Relation.{Relation}
 use Rattle.cd_types.specs.declared.choices.Relation.TheVariants as relation
 use Rattle.cd_types.specs.declared.choices.Side.{Side}
@@ -19,16 +28,16 @@ use Rattle.cd_ast.specs.declared.process.Stmt.{Stmt}
 use Rattle.cd_ast.specs.declared.process.What.{What}
 use Rattle.cd_ast.specs.declared.process.What.TheVariants as what
 use Rattle.cd_ast.specs.Bytes.{is_refused}
-use Rattle.cd_ast.specs.Canonical.{quote_of, side_word, disp_word, relation_sign, source_word, target_word}
+use Rattle.cd_ast.specs.Canonical.{quote_of, side_word, disp_word, relation_sign, source_word, target_word, hold_word, retain_word, digit_of, weekday, canonical}
 use Rattle.cd_grammar.specs.Answers.{Fits}
 use Rattle.cd_grammar.specs.Values.{number_in}
-use Rattle.cd_machine.specs.Ranges.{passes, within, is_interval, is_what, is_stmt, are_stmts}
-use Rattle.cd_print.specs.Printable.{is_symbol_name}
+use Rattle.cd_machine.specs.Ranges.{passes, within, is_interval, is_card, is_timed, is_what, is_stmt, are_stmts}
+use Rattle.cd_print.specs.Printable.{is_symbol_name, is_day, IsPrintable}
 use Rattle.cd_print.proofs.Bytes.{is_good, IsGood}
 use Rattle.cd_print.proofs.Texts.{good_append, good_word, in_front, quoted_good, digits_good, is_clear, range_clear, both_are, first_is, second_is}
 use Rattle.cd_print.proofs.Words.{number_digits}
 use Rattle.cd_print.proofs.Said.{PrintedValues}
-use Rattle.cd_print.proofs.Fronts.{quoted, interval_word, ckpt_front, snode_front, prty_front, symbols_front, work_word, restart_front, what_front, label_front, stmt_front, stmts_front}
+use Rattle.cd_print.proofs.Fronts.{quoted, interval_word, ckpt_front, snode_front, prty_front, symbols_front, work_word, restart_front, what_front, label_front, stmt_front, stmts_front, day_word, time_word, start_front, head_front, print_front, print_is}
 
 either_clear : (a c : Bool) (b : ℕ) → (a || c) ≡ true → (a ≡ true → is_clear b ≡ true) → (c ≡ true → is_clear b ≡ true) → is_clear b ≡ true
 either_clear true c b e f g = f refl
@@ -178,3 +187,77 @@ module _ (values : PrintedValues) where
   stmts_good (s ∷ stmts) rest e g h =
       let here : is_stmt s ≡ true = first_is (is_stmt s) _ e in
       label_front_good s.label _ (first_is (passes is_label s.label) _ here) (what_good s.what _ (second_is (passes is_label s.label) _ here) g.0 (in_front (10 ∷ []) _ refl (stmts_good stmts rest (second_is (is_stmt s) _ e) g.1 h)))
+
+hold_good : (h : Hold) → list_all is_clear (hold_word h) ≡ true
+unfolding is_refused
+hold_good hold.No = refl
+hold_good hold.Yes = refl
+hold_good hold.Call = refl
+
+retain_good : (r : Retain) → list_all is_clear (retain_word r) ≡ true
+unfolding is_refused
+retain_good retain.No = refl
+retain_good retain.Yes = refl
+retain_good retain.Initial = refl
+
+digit_of_clear : (n : ℕ) → is_clear (digit_of n) ≡ true
+digit_of_clear n =
+    let less : n % 10 < 10 = omega arith in
+    let low : nat_le 48 (48 + n % 10) ≡ true = grind arith in
+    let high : nat_le (48 + n % 10) 57 ≡ true = grind arith in
+    range_clear 48 57 (48 + n % 10) (omega arith) (omega arith) (both_are _ _ low high)
+
+time_clear : (seconds : ℕ) → list_all is_clear (time_word seconds) ≡ true
+unfolding is_refused
+time_clear seconds =
+    rw (digit_of_clear (seconds / 3600 / 10)) (rw (digit_of_clear (seconds / 3600)) (rw (digit_of_clear (seconds / 60 % 60 / 10)) (rw (digit_of_clear (seconds / 60 % 60)) (rw (digit_of_clear (seconds % 60 / 10)) (rw (digit_of_clear (seconds % 60)) refl)))))
+
+weekday_clear : (n : ℕ) → n < 7 → list_all is_clear (weekday n) ≡ true
+unfolding weekday is_refused
+weekday_clear zero h = refl
+weekday_clear (suc zero) h = refl
+weekday_clear (suc (suc zero)) h = refl
+weekday_clear (suc (suc (suc zero))) h = refl
+weekday_clear (suc (suc (suc (suc zero)))) h = refl
+weekday_clear (suc (suc (suc (suc (suc zero))))) h = refl
+weekday_clear (suc (suc (suc (suc (suc (suc zero)))))) h = refl
+weekday_clear (suc (suc (suc (suc (suc (suc (suc n))))))) h = absurd (omega arith)
+
+below : (a b : ℕ) → nat_lt a b ≡ true → a < b
+below a b e = grind arith
+
+day_clear : (d : Day) → is_day d ≡ true → list_all is_clear (day_word d) ≡ true
+unfolding is_refused
+day_clear day.Today e = refl
+day_clear day.Tomorrow e = refl
+day_clear (day.Weekday n) e = weekday_clear n (below n 7 e)
+day_clear (day.Date y m d) e =
+    rw (digit_of_clear (m / 10)) (rw (digit_of_clear m) (rw (digit_of_clear (d / 10)) (rw (digit_of_clear d) (rw (digit_of_clear (y / 1000)) (rw (digit_of_clear (y / 100)) (rw (digit_of_clear (y / 10)) (rw (digit_of_clear y) refl)))))))
+
+start_good : (o : Option Start) (rest : List ℕ) → passes (λ start. is_day start.day) o ≡ true → IsGood rest → IsGood (start_front o rest)
+unfolding is_refused
+start_good None rest e h = h
+start_good (Some start) rest e h = in_front (codes " STARTT=(") _ refl (in_front (day_word start.day) _ (day_clear start.day e) (in_front (codes ",") _ refl (in_front (time_word start.seconds) _ (time_clear start.seconds) (in_front (codes ")") rest refl h))))
+
+module _ (values : PrintedValues) where
+  head_good : (name : List ℕ) (card : Card) (rest : List ℕ) → is_label name ≡ true → is_card card ≡ true → passes (λ start. is_day start.day) card.start ≡ true → IsGood rest → IsGood (head_front name card rest)
+  unfolding is_refused
+  head_good name card rest formed e e2 h =
+      let four : (is_label card.name && passes is_node_name card.snode && within 1 15 card.prty && within 1 255 card.class) ≡ true = first_is _ (passes is_timed card.start) e in
+      let three : (is_label card.name && passes is_node_name card.snode && within 1 15 card.prty) ≡ true = first_is _ (within 1 255 card.class) four in
+      let two : (is_label card.name && passes is_node_name card.snode) ≡ true = first_is _ (within 1 15 card.prty) three in
+      let low : card.prty ≤ 15 = up_to card.prty 15 (second_is (nat_le 1 card.prty) _ (second_is _ (within 1 15 card.prty) three)) in
+      let low2 : card.class ≤ 255 = up_to card.class 255 (second_is (nat_le 1 card.class) _ (second_is _ (within 1 255 card.class) four)) in
+      good_append name _ (label_good name formed) (in_front (codes " PROCESS") _ refl (snode_good values card.snode _ (second_is (is_label card.name) _ two) (in_front (codes " PRTY=") _ refl (good_append (decimal card.prty) _ (decimal_good values card.prty (omega arith))
+      (in_front (codes " CLASS=") _ refl (good_append (decimal card.class) _ (decimal_good values card.class (omega arith)) (in_front (codes " HOLD=") _ refl (in_front (hold_word card.hold) _ (hold_good card.hold) (in_front (codes " RETAIN=") _ refl (in_front (retain_word card.retain) _ (retain_good card.retain)
+      (start_good card.start _ e2 (in_front (10 ∷ []) rest refl h))))))))))))
+
+  name_of : (process : Process) → IsPrintable process → is_label process.name ≡ true
+  name_of process p =
+      subst (λ (x : List ℕ). is_label x ≡ true) p.name
+      (first_is _ (passes is_node_name process.card.snode) (first_is _ (within 1 15 process.card.prty) (first_is _ (within 1 255 process.card.class) (first_is _ (passes is_timed process.card.start) p.card))))
+
+  pub print_good : (process : Process) → IsPrintable process → AllGood process.stmts → IsGood (canonical process)
+  unfolding is_refused
+  print_good process p g =
+      subst (λ (x : List ℕ). IsGood x) (sym (print_is process)) (head_good process.name process.card _ (name_of process p) p.card p.start (stmts_good values process.stmts _ p.stmts g (good_word (codes "PEND" ++ (10 ∷ [])) refl)))
