@@ -1,7 +1,7 @@
 -- A whole print has good bytes where the texts of its statements have.
-use Rattle.std.proofs.Common.{◌≡◌, ℕ, ◌+◌, ◌/◌, ◌%◌, ◌<◌, ◌≤◌, Bool, true, false, not, ◌&&◌, ◌||◌, List, [], ◌∷◌, ◌++◌, length, zero, suc, Option, Some, None, refl, ap, sym, subst, ◌∙◌, arith, if◌then◌else◌, nat_le, nat_lt}
+use Rattle.std.proofs.Common.{◌≡◌, ℕ, ◌+◌, ◌/◌, ◌%◌, ◌<◌, ◌≤◌, Bool, true, false, ◌&&◌, ◌||◌, List, [], ◌∷◌, ◌++◌, length, zero, suc, Option, Some, None, refl, sym, subst, arith, if◌then◌else◌, nat_le, nat_lt}
 use Rattle.std.specs.Prelude.{◌==◌, codes}
-use Rattle.std.specs.Char.{is_ascii_digit, is_ascii_alphanumeric}
+use Rattle.std.specs.Char.{is_ascii_alphanumeric}
 use Rattle.std.specs.Fmt.{decimal}
 use Rattle.std.specs.List.{list_all}
 use Rattle.cd_types.specs.FileName.{is_file_name}
@@ -28,16 +28,14 @@ use Rattle.cd_ast.specs.declared.process.Stmt.{Stmt}
 use Rattle.cd_ast.specs.declared.process.What.{What}
 use Rattle.cd_ast.specs.declared.process.What.TheVariants as what
 use Rattle.cd_ast.specs.Bytes.{is_refused}
-use Rattle.cd_ast.specs.Canonical.{quote_of, side_word, disp_word, relation_sign, source_word, target_word, hold_word, retain_word, digit_of, weekday, canonical}
-use Rattle.cd_grammar.specs.Answers.{Fits}
-use Rattle.cd_grammar.specs.Values.{number_in}
+use Rattle.cd_ast.specs.Canonical.{side_word, disp_word, relation_sign, source_word, target_word, hold_word, retain_word, digit_of, weekday, canonical}
 use Rattle.cd_machine.specs.Ranges.{passes, within, is_interval, is_card, is_timed, is_what, is_stmt, are_stmts}
-use Rattle.cd_print.specs.Printable.{is_symbol_name, is_day, IsPrintable}
-use Rattle.cd_print.proofs.Bytes.{is_good, IsGood}
+use Rattle.cd_print.specs.Printable.{is_symbol_name, is_quotable, are_symbols, IsQuotable, AreQuotable, is_day, IsPrintable, IsGoodText, HaveGoodValues, HasGoodTexts, HaveGoodTexts}
+use Rattle.cd_print.proofs.Bytes.{IsGood}
 use Rattle.cd_print.proofs.Texts.{good_append, good_word, in_front, quoted_good, digits_good, is_clear, range_clear, both_are, first_is, second_is}
 use Rattle.cd_print.proofs.Words.{number_digits}
 use Rattle.cd_print.proofs.Said.{PrintedValues}
-use Rattle.cd_print.proofs.Fronts.{quoted, interval_word, ckpt_front, snode_front, prty_front, symbols_front, work_word, restart_front, what_front, label_front, stmt_front, stmts_front, day_word, time_word, start_front, head_front, print_front, print_is}
+use Rattle.cd_print.proofs.Fronts.{interval_word, ckpt_front, snode_front, prty_front, symbols_front, work_word, restart_front, what_front, label_front, stmts_front, day_word, time_word, start_front, head_front, print_is}
 
 either_clear : (a c : Bool) (b : ℕ) → (a || c) ≡ true → (a ≡ true → is_clear b ≡ true) → (c ≡ true → is_clear b ≡ true) → is_clear b ≡ true
 either_clear true c b e f g = f refl
@@ -261,3 +259,25 @@ module _ (values : PrintedValues) where
   unfolding is_refused
   print_good process p g =
       subst (λ (x : List ℕ). IsGood x) (sym (print_is process)) (head_good process.name process.card _ (name_of process p) p.card p.start (stmts_good values process.stmts _ p.stmts g (good_word (codes "PEND" ++ (10 ∷ [])) refl)))
+
+good_of : (body : List ℕ) → IsGoodText body → IsGood body
+good_of body h = record { bytes = h.0; utf8 = h.1 }
+
+values_of : (pairs : List (List ℕ × List ℕ)) → are_symbols pairs ≡ true → HaveGoodValues pairs → GoodSymbols pairs
+values_of [] e h = tt
+values_of (pair ∷ pairs) e h =
+    (first_is (is_symbol_name pair.0) _ (first_is (is_symbol_name pair.0 && is_quotable pair.1) _ e), good_of pair.1 h.0, values_of pairs (second_is (is_symbol_name pair.0 && is_quotable pair.1) _ e) h.1)
+
+texts_of : (said : What) → IsQuotable said → HasGoodTexts said → GoodTexts said
+texts_of (what.Copy copy) q h = (good_of copy.from h.0, good_of copy.to h.1)
+texts_of (what.Task task) q h = good_of task.command h
+texts_of (what.Submit submit) q h = (good_of submit.file h.0, values_of submit.symbols q.1 h.1)
+texts_of (what.If label rel n) q h = tt
+texts_of what.Else q h = tt
+texts_of what.Eif q h = tt
+texts_of (what.Goto label) q h = tt
+texts_of what.Exit q h = tt
+
+pub all_of : (stmts : List Stmt) → AreQuotable stmts → HaveGoodTexts stmts → AllGood stmts
+all_of [] q h = tt
+all_of (s ∷ stmts) q h = (texts_of s.what q.0 h.0, all_of stmts q.1 h.1)

@@ -1,29 +1,16 @@
 -- A print has good bytes where the texts of its statements have.
-use Rattle.std.proofs.Common.{◌≡◌, ℕ, zero, suc, ◌+◌, ◌/◌, ◌%◌, ◌<◌, ◌≤◌, Bool, true, false, not, ◌&&◌, ◌||◌, List, [], ◌∷◌, ◌++◌, length, Option, Some, None, refl, ap, sym, subst, ◌∙◌, arith, if◌then◌else◌, nat_le, nat_lt}
-use Rattle.std.specs.Prelude.{◌==◌, codes}
-use Rattle.std.specs.Char.{is_ascii_digit, is_ascii_alphanumeric}
-use Rattle.std.specs.Fmt.{decimal}
+use Rattle.std.proofs.Common.{◌≡◌, ℕ, ◌<◌, ◌≤◌, Bool, true, false, ◌&&◌, List, [], ◌∷◌, ◌++◌, refl, ◌∙◌, arith, if◌then◌else◌, nat_le, nat_lt}
+use Rattle.std.specs.Prelude.{◌==◌}
+use Rattle.std.specs.Char.{is_ascii_digit}
 use Rattle.std.specs.List.{list_all, list_any}
-use Rattle.std.specs.Str.{IsUtf8, IsAscii}
+use Rattle.std.specs.Str.{IsAscii}
 use Rattle.std.proofs.lemmas.Str.{IsUtf8-append, IsUtf8-from_ascii}
 use Rattle.std.proofs.lemmas.Str.Ascii.{IsAscii-cons, IsAscii-nil}
 use Rattle.std.proofs.lemmas.List.Folds.{list_all-append}
-use Rattle.cd_types.specs.declared.choices.Disp.TheVariants as disp
-use Rattle.cd_types.specs.declared.choices.Disp.{Disp}
-use Rattle.cd_types.specs.declared.choices.Hold.TheVariants as hold
-use Rattle.cd_types.specs.declared.choices.Hold.{Hold}
-use Rattle.cd_types.specs.declared.choices.Relation.{Relation}
-use Rattle.cd_types.specs.declared.choices.Relation.TheVariants as relation
-use Rattle.cd_types.specs.declared.choices.Retain.{Retain}
-use Rattle.cd_types.specs.declared.choices.Retain.TheVariants as retain
-use Rattle.cd_types.specs.declared.choices.Side.{Side}
-use Rattle.cd_types.specs.declared.choices.Side.TheVariants as side
-use Rattle.cd_types.specs.declared.choices.TaskKind.{TaskKind}
-use Rattle.cd_types.specs.declared.choices.TaskKind.TheVariants as kind
 use Rattle.cd_ast.specs.Bytes.{is_refused}
-use Rattle.cd_ast.specs.Canonical.{quote_of, side_word, hold_word, retain_word, disp_word, relation_sign, source_word, target_word}
+use Rattle.cd_ast.specs.Canonical.{quote_of}
 use Rattle.cd_print.proofs.Bytes.{is_good, IsGood}
-use Rattle.cd_print.proofs.Fronts.{quoted, work_word, restart_front}
+use Rattle.cd_print.proofs.Fronts.{quoted}
 
 pub both_are : (a b : Bool) → a ≡ true → b ≡ true → (a && b) ≡ true
 both_are true b e e2 = e2

@@ -2,6 +2,8 @@
 use Rattle.std.specs.Prelude.{◌≡◌, ℕ, ◌≤◌, List, [], ◌∷◌, length, Bool, true, false, not, ◌&&◌, ◌==◌, nat_le, nat_lt, Option, Some, None, if◌then◌else◌}
 use Rattle.std.specs.Char.{is_ascii_alphanumeric}
 use Rattle.std.specs.List.{list_all, list_any}
+use Rattle.std.specs.Str.{IsUtf8}
+use Rattle.cd_ast.specs.Bytes.{is_refused}
 use Rattle.cd_types.specs.Symbols.{upper_case, with_symbol}
 use Rattle.cd_ast.specs.declared.process.Stmt.{Stmt}
 use Rattle.cd_ast.specs.declared.process.What.{What}
@@ -82,3 +84,22 @@ pub record IsPrintable (process : Process) : Type 0 where
   pub count : length process.stmts ≤ 1024
   pub quoted : AreQuotable process.stmts
   pub nested : AreNested [] process.stmts
+
+-- UTF-8 without a byte that no text may have
+abbrev pub IsGoodText : List ℕ → Type 0
+IsGoodText body = (list_all (λ b. not (is_refused b)) body ≡ true) × IsUtf8 body
+
+abbrev pub HaveGoodValues : List (List ℕ × List ℕ) → Type 0
+HaveGoodValues [] = Unit {0}
+HaveGoodValues (pair ∷ pairs) = IsGoodText pair.1 × HaveGoodValues pairs
+
+-- the files, the commands and the values of statements are such texts
+abbrev pub HasGoodTexts : What → Type 0
+HasGoodTexts (what.Copy copy) = IsGoodText copy.from × IsGoodText copy.to
+HasGoodTexts (what.Task task) = IsGoodText task.command
+HasGoodTexts (what.Submit submit) = IsGoodText submit.file × HaveGoodValues submit.symbols
+HasGoodTexts _ = Unit {0}
+
+abbrev pub HaveGoodTexts : List Stmt → Type 0
+HaveGoodTexts [] = Unit {0}
+HaveGoodTexts (s ∷ stmts) = HasGoodTexts s.what × HaveGoodTexts stmts

@@ -1,16 +1,15 @@
 use Rattle.std.proofs.Common.{arith}
-use Rattle.std.specs.Prelude.{◌≡◌, ◌≤◌, ℕ, List, length, true, not}
-use Rattle.std.specs.List.{list_all}
-use Rattle.std.specs.Str.{IsUtf8}
-use Rattle.cd_ast.specs.Bytes.{is_refused}
-use Rattle.cd_print.proofs.Bytes.{good_place}
+use Rattle.std.specs.Prelude.{◌≡◌, ◌≤◌, ℕ, List, length}
+use Rattle.cd_print.proofs.Bytes.{good_place, IsGood}
+use Rattle.cd_print.proofs.Prints.{print_good, all_of}
+use Rattle.cd_ast.specs.Tokens.{bad_place}
 use Rattle.cd_ast.specs.declared.process.Process.{Process}
 use Rattle.cd_ast.specs.Canonical.{canonical}
 use Rattle.cd_grammar.specs.Answers.{strict}
 use Rattle.cd_grammar.specs.Reading.{Reading}
 use Rattle.cd_grammar.specs.Tokens.{tokens_of}
 use Rattle.cd_grammar.specs.Faults.{IsRead, process_of, InGrammar, longest_plain}
-use Rattle.cd_print.specs.Printable.{IsPrintable}
+use Rattle.cd_print.specs.Printable.{HaveGoodTexts, IsPrintable}
 use Rattle.cd_print.proofs.Said.{PrintedValues}
 use Rattle.cd_print.proofs.Heads.{PrintedStarts}
 use Rattle.cd_print.proofs.Back.{IsBack, print_read, print_clean}
@@ -23,7 +22,7 @@ returns c = record {
   read_back = λ process p. back process p (print_read values starts process (c.law_of_tokens.ensures.whole (canonical process)) p);
   whole = λ process p. print_clean values starts process p;
   again = anew;
-  again_resolved = λ text overrides process said good utf8. anew said.plain process said.says (small process (c.law_of_sizes.ensures.short text overrides process said)) good utf8;
+  again_resolved = λ text overrides process said good. anew said.plain process said.says (small process (c.law_of_sizes.ensures.short text overrides process said)) good;
   printable = printable;
 }
   where
@@ -39,8 +38,11 @@ returns c = record {
     printable : (text : List ℕ) (process : Process) → InGrammar text process → IsPrintable process
     printable text process said = text_printable text process (c.law_of_tokens.ensures.whole text) (c.law_of_ranges.ensures.card text process said) (c.law_of_ranges.ensures.name text process said) (c.law_of_ranges.ensures.statements text process said) (c.law_of_ranges.ensures.count text process said) said
 
-    anew : (text : List ℕ) (process : Process) → InGrammar text process → length (canonical process) ≤ longest_plain → list_all (λ b. not (is_refused b)) (canonical process) ≡ true → IsUtf8 (canonical process) → InGrammar (canonical process) process
-    anew text process said short good utf8 = again text process (c.law_of_tokens.ensures.whole text) said short (good_place (canonical process) good utf8) (print_clean values starts process (printable text process said))
+    placed : (process : Process) → IsPrintable process → HaveGoodTexts process.stmts → bad_place (canonical process) ≡ length (canonical process)
+    placed process p good = let whole : IsGood (canonical process) = print_good values process p (all_of process.stmts p.quoted good) in good_place (canonical process) whole.bytes whole.utf8
+
+    anew : (text : List ℕ) (process : Process) → InGrammar text process → length (canonical process) ≤ longest_plain → HaveGoodTexts process.stmts → InGrammar (canonical process) process
+    anew text process said short good = again text process (c.law_of_tokens.ensures.whole text) said short (placed process (printable text process said) good) (print_clean values starts process (printable text process said))
         (print_read values starts process (c.law_of_tokens.ensures.whole (canonical process)) (printable text process said))
 
     small : (process : Process) → length (canonical process) ≤ 200000 → length (canonical process) ≤ longest_plain
