@@ -1,14 +1,13 @@
 -- How the pieces of a print are cut, and what tokens they are.
-use Rattle.std.proofs.Common.{◌≡◌, ℕ, zero, suc, ◌+◌, ◌-◌, ◌<◌, Bool, true, false, not, ◌&&◌, ◌||◌, List, [], ◌∷◌, ◌++◌, append_assoc, length, length-append, take, drop, Option, Some, None, refl, ap, sym, subst, ◌∙◌, arith, if◌then◌else◌, nat_lt, map}
+use Rattle.std.proofs.Common.{◌≡◌, ℕ, suc, ◌+◌, ◌-◌, Bool, true, false, not, ◌&&◌, ◌||◌, List, [], ◌∷◌, ◌++◌, append_assoc, length, length-append, take, drop, refl, ap, sym, subst, ◌∙◌, arith, if◌then◌else◌, nat_lt, map}
 use Rattle.std.specs.Prelude.{◌==◌, slice_range}
 use Rattle.std.specs.List.{list_all, list_any}
 use Rattle.std.proofs.Math.Seq.{drop-append_seam, take-append_seam}
-use Rattle.cd_ast.specs.declared.fault.FaultName.{FaultName}
 use Rattle.cd_ast.specs.declared.piece.PieceKind.{PieceKind}
 use Rattle.cd_ast.specs.declared.piece.PieceKind.TheVariants as piece
 use Rattle.cd_ast.specs.Bytes.{is_blank, is_quote, is_sign_byte, is_word_byte, is_double_sign, opens_comment}
 use Rattle.cd_ast.specs.Pieces.{Piece, run_len, ends_line, ends_quote, ends_word, is_gap, is_line_end, is_rest_blank, comment_at, quote_at, sign_at, word_at, piece_at, pieces_after, bytes_of}
-use Rattle.cd_ast.specs.Tokens.{Span, is_token, spans_from, open_from, flaw_in, flaw_or}
+use Rattle.cd_ast.specs.Tokens.{Span, is_token, spans_from}
 use Rattle.cd_grammar.specs.declared.token.Token.{Token}
 use Rattle.cd_grammar.specs.Tokens.{inside, seen_token, token_of}
 
@@ -41,10 +40,10 @@ unfolding pieces_after
 pieces_skip [] rest kind = refl
 pieces_skip (b ∷ front) rest kind = pieces_skip front rest kind
 
-abbrev Cut : Type 0
+abbrev pub Cut : Type 0
 Cut = PieceKind × ℕ
 
-abbrev cut_as : PieceKind → ℕ → Cut
+abbrev pub cut_as : PieceKind → ℕ → Cut
 cut_as kind n = (kind, n)
 
 front_is : (front rest : List ℕ) (b n : ℕ) → n ≡ suc (length front) → take n (b ∷ (front ++ rest)) ≡ b ∷ front

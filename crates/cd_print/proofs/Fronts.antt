@@ -1,5 +1,5 @@
 -- A print from its first byte on, in front of what follows.
-use Rattle.std.proofs.Common.{◌≡◌, ℕ, ◌/◌, ◌%◌, Bool, true, false, List, [], ◌∷◌, ◌++◌, append_assoc, append-nil, Option, Some, None, refl, ap, sym, ◌∙◌, if◌then◌else◌}
+use Rattle.std.proofs.Common.{◌≡◌, ℕ, ◌/◌, ◌%◌, Bool, true, false, List, [], ◌∷◌, ◌++◌, append_assoc, Option, Some, None, refl, ap, ◌∙◌, if◌then◌else◌}
 use Rattle.std.specs.Prelude.{◌==◌, codes}
 use Rattle.std.specs.Fmt.{decimal}
 use Rattle.cd_types.specs.declared.choices.TaskKind.{TaskKind}
@@ -12,7 +12,7 @@ use Rattle.cd_ast.specs.declared.process.Process.{Process}
 use Rattle.cd_ast.specs.declared.process.Stmt.{Stmt}
 use Rattle.cd_ast.specs.declared.process.What.{What}
 use Rattle.cd_ast.specs.declared.process.What.TheVariants as what
-use Rattle.cd_ast.specs.Canonical.{quote_of, quoted_onto, side_word, hold_word, retain_word, disp_word, relation_sign, source_word, target_word, two_digits, four_digits, weekday, day_onto, start_onto, interval_onto, ckpt_onto, snode_onto, prty_onto, head_onto, end_onto, copy_onto, run_word, restart_text, task_onto, symbols_onto, submit_onto, what_onto, label_onto, stmt_onto, stmts_onto, canonical}
+use Rattle.cd_ast.specs.Canonical.{quote_of, quoted_onto, side_word, hold_word, retain_word, disp_word, relation_sign, source_word, target_word, two_digits, four_digits, weekday, day_onto, start_onto, interval_onto, ckpt_onto, snode_onto, prty_onto, head_onto, run_word, restart_text, symbols_onto, what_onto, label_onto, stmt_onto, stmts_onto, canonical}
 
 abbrev pub quoted : List ℕ → List ℕ → List ℕ
 quoted body rest = quote_of body ++ (body ++ (quote_of body ++ rest))

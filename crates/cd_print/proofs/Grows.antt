@@ -1,5 +1,5 @@
 -- What a text says is bounded by the text.
-use Rattle.std.proofs.Common.{◌≡◌, ℕ, ◌+◌, ◌-◌, ◌*◌, ◌<◌, ◌≤◌, Bool, true, false, ◌&&◌, List, [], ◌∷◌, ◌++◌, length, Option, Some, None, Ok, refl, ap, subst, arith, if◌then◌else◌, nat_le}
+use Rattle.std.proofs.Common.{◌≡◌, ℕ, ◌+◌, ◌-◌, ◌*◌, ◌≤◌, Bool, true, false, ◌&&◌, List, [], ◌∷◌, ◌++◌, length, Option, Some, None, Ok, refl, ap, subst, arith, if◌then◌else◌, nat_le}
 use Rattle.std.specs.Str.{bytes_eq}
 use Rattle.std.specs.Char.{is_ascii_alphanumeric}
 use Rattle.std.specs.List.{list_all}
@@ -8,7 +8,6 @@ use Rattle.std.proofs.lemmas.List.{length-map}
 use Rattle.std.specs.Char.{to_ascii_uppercase}
 use Rattle.cd_types.specs.FileName.{is_file_name}
 use Rattle.cd_types.specs.Symbols.{upper_case, with_symbol}
-use Rattle.cd_types.specs.declared.start.Day.{Day}
 use Rattle.cd_ast.specs.declared.process.Stmt.{Stmt}
 use Rattle.cd_ast.specs.declared.process.What.{What}
 use Rattle.cd_ast.specs.declared.process.What.TheVariants as what
@@ -29,9 +28,9 @@ use Rattle.cd_grammar.specs.declared.step.End.TheVariants as ends
 use Rattle.cd_grammar.specs.declared.step.Step.{Step}
 use Rattle.cd_grammar.specs.declared.step.Work.{Work}
 use Rattle.cd_grammar.specs.declared.step.Step.TheVariants as step
-use Rattle.cd_grammar.specs.Answers.{Answer, Fits, Outside, Wrong, fits_as, ranged, wanted, strict, taken}
+use Rattle.cd_grammar.specs.Answers.{Answer, Fits, Outside, Wrong, fits_as, ranged, strict, taken}
 use Rattle.cd_grammar.specs.Values.{file_in, node_in, number_in, interval_in, symbol_in, is_share, is_command, are_items}
-use Rattle.cd_grammar.specs.Given.{nothing, with_word, with_quoted, with_value, with_list, shared}
+use Rattle.cd_grammar.specs.Given.{with_word, with_quoted, with_value, with_list, shared}
 use Rattle.cd_grammar.specs.Reading.{Reading, stored, copied, copied_between, run, submitted, ended, given_of, with_given, with_end, with_name}
 use Rattle.cd_grammar.specs.Grammar.{Place, Start, Rest, started, begun_at, opening, before_it, text_of}
 use Rattle.cd_grammar.specs.Grammar as g

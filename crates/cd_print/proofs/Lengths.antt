@@ -1,10 +1,10 @@
 -- How long a print is.
-use Rattle.std.proofs.Common.{◌≡◌, ℕ, ◌+◌, ◌*◌, ◌/◌, ◌<◌, ◌≤◌, ◌^◌, Bool, true, false, ◌&&◌, List, [], ◌∷◌, ◌++◌, length, length-append, Option, Some, None, refl, ap, subst, sym, ◌∙◌, arith, nat_le, if◌then◌else◌}
+use Rattle.std.proofs.Common.{◌≡◌, ℕ, ◌+◌, ◌*◌, ◌/◌, ◌≤◌, Bool, true, false, ◌&&◌, List, [], ◌∷◌, ◌++◌, length, length-append, Option, Some, None, refl, subst, arith, nat_le, if◌then◌else◌}
 use Rattle.std.specs.Prelude.{◌==◌, codes}
 use Rattle.std.specs.List.{list_all, list_any}
 use Rattle.std.specs.Fmt.{decimal}
 use Rattle.std.proofs.lemmas.Fmt.{length-decimal-le}
-use Rattle.cd_types.specs.Label.{is_label, begins_with_letter, is_label_byte, is_reserved}
+use Rattle.cd_types.specs.Label.{is_label, begins_with_letter, is_label_byte}
 use Rattle.cd_types.specs.NodeName.{is_node_name, is_node_byte}
 use Rattle.cd_types.specs.declared.choices.Disp.{Disp}
 use Rattle.cd_types.specs.declared.choices.Disp.TheVariants as disp

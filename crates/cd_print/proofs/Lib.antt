@@ -8,3 +8,14 @@ pub mod Words
 pub mod Fronts
 pub mod Lines
 pub mod Said
+pub mod Stmts
+pub mod Heads
+pub mod Back
+pub mod Origin
+pub mod Clean
+pub mod FromText
+pub mod Faultless
+pub mod Again
+pub mod Bytes
+pub mod Texts
+pub mod Prints

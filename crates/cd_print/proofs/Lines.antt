@@ -1,42 +1,23 @@
 -- What is printed of a statement is read as that statement.
-use Rattle.std.proofs.Common.{◌≡◌, ℕ, ◌+◌, ◌*◌, ◌/◌, ◌%◌, ◌<◌, ◌≤◌, Bool, true, false, not, ◌&&◌, ◌||◌, List, [], ◌∷◌, ◌++◌, length, Option, Some, None, Ok, refl, ap, sym, subst, ◌∙◌, arith, nat_le, nat_eq, if◌then◌else◌, is_some}
-use Rattle.std.specs.Prelude.{◌==◌, codes}
-use Rattle.std.specs.Char.{is_ascii_digit, is_ascii_alphanumeric}
-use Rattle.std.specs.Fmt.{decimal}
+use Rattle.std.proofs.Common.{◌≡◌, ℕ, Bool, true, false, ◌&&◌, List, [], ◌∷◌, ◌++◌, refl, subst, arith, if◌then◌else◌}
+use Rattle.std.specs.Prelude.{◌==◌}
 use Rattle.std.specs.List.{list_all, list_any}
-use Rattle.std.proofs.lemmas.List.Folds.{list_all-append}
-use Rattle.cd_types.specs.FileName.{is_file_name}
-use Rattle.cd_types.specs.Label.{is_label}
-use Rattle.cd_types.specs.NodeName.{is_node_name}
-use Rattle.cd_types.specs.Symbols.{upper_case, with_symbol}
-use Rattle.cd_types.specs.declared.choices.Disp.{Disp}
-use Rattle.cd_types.specs.declared.choices.Disp.TheVariants as disp
 use Rattle.cd_types.specs.declared.choices.Relation.{Relation}
 use Rattle.cd_types.specs.declared.choices.Relation.TheVariants as relation
-use Rattle.cd_types.specs.declared.choices.Side.TheVariants as side
-use Rattle.cd_types.specs.declared.choices.Side as sides
-use Rattle.cd_types.specs.declared.choices.TaskKind.{TaskKind}
-use Rattle.cd_types.specs.declared.choices.TaskKind.TheVariants as kind
 use Rattle.cd_ast.specs.Bytes.{is_blank, is_quote, is_sign_byte, is_word_byte, is_double_sign, opens_comment}
-use Rattle.cd_ast.specs.Canonical.{quote_of, side_word, disp_word, relation_sign, source_word, target_word}
+use Rattle.cd_ast.specs.Canonical.{quote_of, relation_sign}
 use Rattle.cd_ast.specs.Pieces.{sign_at, piece_at, pieces_after}
 use Rattle.cd_ast.specs.declared.piece.PieceKind.{PieceKind}
 use Rattle.cd_ast.specs.declared.piece.PieceKind.TheVariants as piece
-use Rattle.cd_ast.specs.declared.process.What.{What}
-use Rattle.cd_ast.specs.declared.process.What.TheVariants as what
-use Rattle.cd_ast.specs.declared.process.CopyStep.{CopyStep}
-use Rattle.cd_ast.specs.declared.process.TaskStep.{TaskStep}
-use Rattle.cd_ast.specs.declared.process.SubmitStep.{SubmitStep}
 use Rattle.cd_grammar.specs.declared.token.Key.{Key}
-use Rattle.cd_grammar.specs.declared.token.Key.TheVariants as key
 use Rattle.cd_grammar.specs.declared.token.Sign.TheVariants as sign
 use Rattle.cd_grammar.specs.declared.token.Token.{Token}
 use Rattle.cd_grammar.specs.declared.token.Token.TheVariants.{Word, Quoted, Mark}
 use Rattle.cd_grammar.specs.Tokens.{Side, Out, Named, Opening, In, behind_word, behind_sign, is_blank_comma}
-use Rattle.cd_grammar.specs.Words.{key_of, sign_of, said_in}
+use Rattle.cd_grammar.specs.Words.{key_of, sign_of}
 use Rattle.cd_print.specs.Printable.{is_quotable}
 use Rattle.cd_print.proofs.Cuts.{is_plain, begins_well, stops, begins_equal, piece_is}
-use Rattle.cd_print.proofs.Tails.{Reads, onward, on_blank, on_line, on_word, on_inner, on_sign, on_quote, on_quoted, is_outside, by_token}
+use Rattle.cd_print.proofs.Tails.{Reads, on_word, on_sign, on_quoted, is_outside, by_token}
 use Rattle.cd_print.proofs.Words.{word_outside}
 use Rattle.cd_print.proofs.Fronts.{quoted}
 
@@ -65,7 +46,7 @@ equals_outside Named e = refl
 equals_outside Opening e = refl
 equals_outside In e = absurd cc
 
-sign_open : sign_of (40 ∷ []) ≡ sign.Open
+pub sign_open : sign_of (40 ∷ []) ≡ sign.Open
 unfolding sign_of
 sign_open = refl
 
@@ -77,7 +58,7 @@ sign_equals : sign_of (61 ∷ []) ≡ sign.Equals
 unfolding sign_of
 sign_equals = refl
 
-sign_comma : sign_of (44 ∷ []) ≡ sign.Comma
+pub sign_comma : sign_of (44 ∷ []) ≡ sign.Comma
 unfolding sign_of
 sign_comma = refl
 

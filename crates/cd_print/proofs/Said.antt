@@ -1,10 +1,10 @@
 -- What is printed of a statement is read as that statement.
-use Rattle.std.proofs.Common.{◌≡◌, ℕ, ◌+◌, ◌*◌, ◌/◌, ◌%◌, ◌<◌, ◌≤◌, Bool, true, false, not, ◌&&◌, ◌||◌, List, [], ◌∷◌, ◌++◌, length, length-append, Option, Some, None, Ok, refl, ap, sym, subst, ◌∙◌, arith, nat_le, nat_lt, nat_eq, if◌then◌else◌}
+use Rattle.std.proofs.Common.{◌≡◌, ℕ, ◌*◌, ◌/◌, ◌%◌, ◌<◌, ◌≤◌, Bool, true, false, ◌&&◌, List, [], ◌∷◌, ◌++◌, length, length-append, Option, Some, None, Ok, refl, ap, sym, ◌∙◌, arith, nat_le, nat_lt, if◌then◌else◌}
 use Rattle.std.specs.Prelude.{◌==◌, codes}
 use Rattle.std.specs.Option.{option_map}
-use Rattle.std.specs.Char.{is_ascii_digit, is_ascii_alphanumeric}
+use Rattle.std.specs.Char.{is_ascii_digit}
 use Rattle.std.specs.Fmt.{decimal}
-use Rattle.std.specs.List.{list_all, list_any}
+use Rattle.std.specs.List.{list_all}
 use Rattle.std.proofs.lemmas.List.Folds.{list_all-append}
 use Rattle.cd_types.specs.FileName.{is_file_name}
 use Rattle.cd_types.specs.Label.{is_label}
@@ -19,10 +19,9 @@ use Rattle.cd_types.specs.declared.choices.Side.TheVariants as side
 use Rattle.cd_types.specs.declared.choices.TaskKind.{TaskKind}
 use Rattle.cd_types.specs.declared.choices.TaskKind.TheVariants as kind
 use Rattle.cd_ast.specs.Bytes.{is_blank, is_quote, is_sign_byte, is_word_byte}
-use Rattle.cd_ast.specs.Canonical.{quote_of, side_word, disp_word, relation_sign, source_word, target_word}
+use Rattle.cd_ast.specs.Canonical.{side_word, disp_word, relation_sign, source_word, target_word}
 use Rattle.cd_ast.specs.declared.piece.PieceKind.{PieceKind}
 use Rattle.cd_ast.specs.declared.piece.PieceKind.TheVariants as piece
-use Rattle.cd_ast.specs.declared.process.Stmt.{Stmt}
 use Rattle.cd_ast.specs.declared.process.What.{What}
 use Rattle.cd_ast.specs.declared.process.What.TheVariants as what
 use Rattle.cd_ast.specs.declared.process.CopyStep.{CopyStep}
@@ -30,7 +29,6 @@ use Rattle.cd_ast.specs.declared.process.TaskStep.{TaskStep}
 use Rattle.cd_ast.specs.declared.process.SubmitStep.{SubmitStep}
 use Rattle.cd_grammar.specs.declared.token.Key.{Key}
 use Rattle.cd_grammar.specs.declared.token.Key.TheVariants as key
-use Rattle.cd_grammar.specs.declared.token.Sign.TheVariants as sign
 use Rattle.cd_grammar.specs.declared.token.Token.{Token}
 use Rattle.cd_grammar.specs.declared.token.Token.TheVariants.{Word, Quoted, Mark}
 use Rattle.cd_grammar.specs.declared.given.Given.{Given}
@@ -42,23 +40,22 @@ use Rattle.cd_grammar.specs.declared.step.Begun.{Begun}
 use Rattle.cd_grammar.specs.declared.step.CopyGiven.{CopyGiven}
 use Rattle.cd_grammar.specs.declared.step.Step.{Step}
 use Rattle.cd_grammar.specs.declared.step.Step.TheVariants as step
-use Rattle.cd_grammar.specs.declared.step.Work.{Work}
 use Rattle.cd_grammar.specs.declared.step.Work.TheVariants as work
-use Rattle.cd_grammar.specs.Answers.{Answer, Fits, fits_as, ranged, wanted, strict, taken}
+use Rattle.cd_grammar.specs.Answers.{Answer, Fits, strict, taken}
 use Rattle.cd_grammar.specs.Given.{nothing, has, side_of, with_word, with_quoted, with_value, from_slot, to_slot, copy_slot, task_slot, job_slot, submit_slot}
 use Rattle.cd_grammar.specs.Grammar.{Place, Rest, opening, before_it, begun_at, end_in, work_of, relation_of}
 use Rattle.cd_grammar.specs.Grammar as g
-use Rattle.cd_grammar.specs.Reading.{Reading, stored, ended, slot_of, has_room, has_depth, is_pnode, are_same, kind_of}
-use Rattle.cd_grammar.specs.Tokens.{Side, Out, Named, Opening, In, behind_word, behind_sign}
+use Rattle.cd_grammar.specs.Reading.{Reading, stored, ended, slot_of, has_room, is_pnode, are_same}
+use Rattle.cd_grammar.specs.Tokens.{Side, Out}
 use Rattle.cd_grammar.specs.Values.{number_in, interval_in, symbol_in, file_in, node_in, is_command, disp_in, restart_in}
 use Rattle.cd_grammar.specs.Words.{key_of, sign_of, said_in}
 use Rattle.cd_machine.specs.Ranges.{passes, within, is_interval}
 use Rattle.cd_print.specs.Printable.{is_quotable, is_symbol_name, are_symbols, with_all, IsQuotable}
 use Rattle.cd_print.proofs.Cuts.{is_plain, begins_well, stops, begins_equal}
-use Rattle.cd_print.proofs.Tails.{Reads, onward, on_blank, on_line, on_word, on_quoted, is_outside}
-use Rattle.cd_print.proofs.Words.{word_outside, label_read, front_read, fits_taken, labels_plain, label_begins, nodes_plain, node_begins, number_digits, digits_plain, digits_begin, all_by, alnums_plain}
-use Rattle.cd_print.proofs.Fronts.{quoted, interval_word, ckpt_front, snode_front, prty_front, symbols_front, work_word, restart_front, what_front, label_front}
-use Rattle.cd_print.proofs.Lines.{on_close, on_equals, on_open, on_pair, on_text, on_relation, plain_other}
+use Rattle.cd_print.proofs.Tails.{Reads, onward, on_blank, on_word, is_outside}
+use Rattle.cd_print.proofs.Words.{word_outside, label_read, fits_taken, labels_plain, label_begins, nodes_plain, node_begins, number_digits, digits_plain, digits_begin, alnums_plain}
+use Rattle.cd_print.proofs.Fronts.{quoted, interval_word, ckpt_front, snode_front, prty_front, symbols_front, work_word, restart_front, what_front}
+use Rattle.cd_print.proofs.Lines.{on_close, on_open, on_pair, on_text, on_relation, plain_other}
 
 -- what is known of printed values
 pub record PrintedValues : Type 0 where
@@ -117,11 +114,11 @@ key_subnode : key_of (codes "SUBNODE") ≡ key.Subnode
 unfolding key_of said_in
 key_subnode = refl
 
-key_snode : key_of (codes "SNODE") ≡ key.Snode
+pub key_snode : key_of (codes "SNODE") ≡ key.Snode
 unfolding key_of said_in
 key_snode = refl
 
-key_prty : key_of (codes "PRTY") ≡ key.Prty
+pub key_prty : key_of (codes "PRTY") ≡ key.Prty
 unfolding key_of said_in
 key_prty = refl
 
@@ -149,27 +146,27 @@ key_exit : key_of (codes "EXIT") ≡ key.Exit
 unfolding key_of said_in
 key_exit = refl
 
-key_pend : key_of (codes "PEND") ≡ key.Pend
+pub key_pend : key_of (codes "PEND") ≡ key.Pend
 unfolding key_of said_in
 key_pend = refl
 
-key_process : key_of (codes "PROCESS") ≡ key.Process
+pub key_process : key_of (codes "PROCESS") ≡ key.Process
 unfolding key_of said_in
 key_process = refl
 
-key_class : key_of (codes "CLASS") ≡ key.Class
+pub key_class : key_of (codes "CLASS") ≡ key.Class
 unfolding key_of said_in
 key_class = refl
 
-key_hold : key_of (codes "HOLD") ≡ key.Hold
+pub key_hold : key_of (codes "HOLD") ≡ key.Hold
 unfolding key_of said_in
 key_hold = refl
 
-key_retain : key_of (codes "RETAIN") ≡ key.Retain
+pub key_retain : key_of (codes "RETAIN") ≡ key.Retain
 unfolding key_of said_in
 key_retain = refl
 
-key_startt : key_of (codes "STARTT") ≡ key.Startt
+pub key_startt : key_of (codes "STARTT") ≡ key.Startt
 unfolding key_of said_in
 key_startt = refl
 
@@ -220,7 +217,7 @@ file_read : (name : List ℕ) → is_file_name name ≡ true → file_in name �
 unfolding file_in
 file_read name e = rw e refl
 
-node_read : (name : List ℕ) → is_node_name name ≡ true → node_in name ≡ Fits name
+pub node_read : (name : List ℕ) → is_node_name name ≡ true → node_in name ≡ Fits name
 unfolding node_in
 node_read name e = rw e refl
 
@@ -300,15 +297,15 @@ disp_begins before disp.New = refl
 disp_begins before disp.Rpl = refl
 disp_begins before disp.Mod = refl
 
-first_is : (a b : Bool) → (a && b) ≡ true → a ≡ true
+pub first_is : (a b : Bool) → (a && b) ≡ true → a ≡ true
 first_is true b e = refl
 first_is false b e = absurd cc
 
-second_is : (a b : Bool) → (a && b) ≡ true → b ≡ true
+pub second_is : (a b : Bool) → (a && b) ≡ true → b ≡ true
 second_is true b e = e
 second_is false b e = absurd cc
 
-up_to : (a b : ℕ) → nat_le a b ≡ true → a ≤ b
+pub up_to : (a b : ℕ) → nat_le a b ≡ true → a ≤ b
 up_to a b e = grind arith
 
 file_given : (given : Given) (at at2 : ℕ) (text : List ℕ) → is_file_name text ≡ true → taken true (with_value given slot.File at (Quoted at2 text)) ≡ Ok (record given { file = Some text })
@@ -419,7 +416,7 @@ module _ (values : PrintedValues) (Q : Reading → Type 0) where
   ckpt_other None rest = refl
   ckpt_other (Some n) rest = refl
 
-  copy_line : (p : Place) (label : Option (ℕ × List ℕ)) (before : Reading) (copy : CopyStep) (kind : PieceKind) (side : Side) (rest : List ℕ) → opening p ≡ Some (label, before) → has_room strict before ≡ true → is_outside side ≡ true
+  pub copy_line : (p : Place) (label : Option (ℕ × List ℕ)) (before : Reading) (copy : CopyStep) (kind : PieceKind) (side : Side) (rest : List ℕ) → opening p ≡ Some (label, before) → has_room strict before ≡ true → is_outside side ≡ true
       → is_file_name copy.from ≡ true → is_file_name copy.to ≡ true → passes is_interval copy.ckpt ≡ true → is_quotable copy.from ≡ true → is_quotable copy.to ≡ true
       → Next Q before label (what.Copy copy) before.ifs rest → Reads (Ends Q p) kind side (what_front (what.Copy copy) (10 ∷ rest))
   unfolding is_word_byte is_blank is_quote is_sign_byte slot_of from_slot to_slot has with_word with_quoted end_in ended
@@ -463,7 +460,7 @@ module _ (values : PrintedValues) (Q : Reading → Type 0) where
     sketched = tt;
   }
 
-  task_line : (p : Place) (label : Option (ℕ × List ℕ)) (before : Reading) (task : TaskStep) (k : TaskKind) (kind : PieceKind) (side : Side) (rest : List ℕ) → task.kind ≡ k → opening p ≡ Some (label, before) → has_room strict before ≡ true → is_outside side ≡ true
+  pub task_line : (p : Place) (label : Option (ℕ × List ℕ)) (before : Reading) (task : TaskStep) (k : TaskKind) (kind : PieceKind) (side : Side) (rest : List ℕ) → task.kind ≡ k → opening p ≡ Some (label, before) → has_room strict before ≡ true → is_outside side ≡ true
       → is_command task.command ≡ true → is_quotable task.command ≡ true
       → Next Q before label (what.Task task) before.ifs rest → Reads (Ends Q p) kind side (codes "RUN" ++ (32 ∷ (work_word k ++ (32 ∷ (side_word task.side ++ (32 ∷ (codes "SYSOPTS" ++ (61 ∷ quoted task.command (restart_front k (10 ∷ rest))))))))))
   unfolding is_word_byte is_blank is_quote is_sign_byte slot_of task_slot job_slot has ended work_of
@@ -508,7 +505,7 @@ module _ (values : PrintedValues) (Q : Reading → Type 0) where
     sketched = like;
   }
 
-  if_line : (p : Place) (label : Option (ℕ × List ℕ)) (before : Reading) (name : List ℕ) (rel : Relation) (n : ℕ) (kind : PieceKind) (side : Side) (rest : List ℕ) → opening p ≡ Some (label, before) → has_room strict before ≡ true
+  pub if_line : (p : Place) (label : Option (ℕ × List ℕ)) (before : Reading) (name : List ℕ) (rel : Relation) (n : ℕ) (kind : PieceKind) (side : Side) (rest : List ℕ) → opening p ≡ Some (label, before) → has_room strict before ≡ true
       → nat_lt (length before.ifs) 16 ≡ true → is_outside side ≡ true → is_label name ≡ true → n ≤ 255
       → Next Q before label (what.If name rel n) (false ∷ before.ifs) rest → Reads (Ends Q p) kind side (what_front (what.If name rel n) (10 ∷ rest))
   unfolding is_word_byte is_blank is_quote is_sign_byte ended
@@ -529,7 +526,7 @@ module _ (values : PrintedValues) (Q : Reading → Type 0) where
       label_other : (w rest2 : List ℕ) → is_label w ≡ true → begins_equal (w ++ rest2) ≡ false
       label_other w rest2 e = plain_other piece.Sign w rest2 (labels_plain w e) (label_begins piece.Sign w e)
 
-  goto_line : (p : Place) (label : Option (ℕ × List ℕ)) (before : Reading) (name : List ℕ) (kind : PieceKind) (side : Side) (rest : List ℕ) → opening p ≡ Some (label, before) → has_room strict before ≡ true → is_outside side ≡ true → is_label name ≡ true
+  pub goto_line : (p : Place) (label : Option (ℕ × List ℕ)) (before : Reading) (name : List ℕ) (kind : PieceKind) (side : Side) (rest : List ℕ) → opening p ≡ Some (label, before) → has_room strict before ≡ true → is_outside side ≡ true → is_label name ≡ true
       → Next Q before label (what.Goto name) before.ifs rest → Reads (Ends Q p) kind side (what_front (what.Goto name) (10 ∷ rest))
   unfolding is_word_byte is_blank is_quote is_sign_byte ended
   goto_line p label before name kind side rest opens room out fits next =
@@ -539,7 +536,7 @@ module _ (values : PrintedValues) (Q : Reading → Type 0) where
       (next _ step.Between _ _ _ refl (empty_follows before label a1 (sketch.Goto a2 name) (what.Goto name) before.ifs refl) (word_outside (key_of name)))
       )))
 
-  exit_line : (p : Place) (label : Option (ℕ × List ℕ)) (before : Reading) (kind : PieceKind) (side : Side) (rest : List ℕ) → opening p ≡ Some (label, before) → has_room strict before ≡ true → is_outside side ≡ true
+  pub exit_line : (p : Place) (label : Option (ℕ × List ℕ)) (before : Reading) (kind : PieceKind) (side : Side) (rest : List ℕ) → opening p ≡ Some (label, before) → has_room strict before ≡ true → is_outside side ≡ true
       → Next Q before label what.Exit before.ifs rest → Reads (Ends Q p) kind side (what_front what.Exit (10 ∷ rest))
   unfolding is_word_byte is_blank is_quote is_sign_byte ended
   exit_line p label before kind side rest opens room out next =
@@ -548,7 +545,7 @@ module _ (values : PrintedValues) (Q : Reading → Type 0) where
       (next _ step.Between _ _ _ refl (empty_follows before label a1 sketch.Exit what.Exit before.ifs tt) refl)
       )
 
-  else_line : (r before : Reading) (s : Step) (more : List Bool) (kind : PieceKind) (side : Side) (rest : List ℕ) → ended r s ≡ Some before → has_room strict before ≡ true → before.ifs ≡ false ∷ more → is_outside side ≡ true
+  pub else_line : (r before : Reading) (s : Step) (more : List Bool) (kind : PieceKind) (side : Side) (rest : List ℕ) → ended r s ≡ Some before → has_room strict before ≡ true → before.ifs ≡ false ∷ more → is_outside side ≡ true
       → Next Q before None what.Else (true ∷ more) rest → Reads (Ends Q (g.At r s)) kind side (what_front what.Else (10 ∷ rest))
   unfolding is_word_byte is_blank is_quote is_sign_byte ended
   else_line r before s more kind side rest ends2 room open2 out next =
@@ -557,7 +554,7 @@ module _ (values : PrintedValues) (Q : Reading → Type 0) where
       (next _ step.Between _ _ _ refl (empty_follows before None a1 sketch.Else what.Else (true ∷ more) tt) refl)
       )
 
-  eif_line : (r before : Reading) (s : Step) (has_else : Bool) (more : List Bool) (kind : PieceKind) (side : Side) (rest : List ℕ) → ended r s ≡ Some before → has_room strict before ≡ true → before.ifs ≡ has_else ∷ more → is_outside side ≡ true
+  pub eif_line : (r before : Reading) (s : Step) (has_else : Bool) (more : List Bool) (kind : PieceKind) (side : Side) (rest : List ℕ) → ended r s ≡ Some before → has_room strict before ≡ true → before.ifs ≡ has_else ∷ more → is_outside side ≡ true
       → Next Q before None what.Eif more rest → Reads (Ends Q (g.At r s)) kind side (what_front what.Eif (10 ∷ rest))
   unfolding is_word_byte is_blank is_quote is_sign_byte ended
   eif_line r before s has_else more kind side rest ends2 room open2 out next =
@@ -649,7 +646,7 @@ module _ (values : PrintedValues) (Q : Reading → Type 0) where
   all_from : (symbols : List (List ℕ × List ℕ)) (submit : SubmitStep) → symbols ≡ [] → with_all [] submit.symbols ≡ submit.symbols → with_all symbols submit.symbols ≡ submit.symbols
   all_from symbols submit e e2 = ap (λ (x : List (List ℕ × List ℕ)). with_all x submit.symbols) e ∙ e2
 
-  submit_line : (p : Place) (label : Option (ℕ × List ℕ)) (before : Reading) (submit : SubmitStep) (kind : PieceKind) (side : Side) (rest : List ℕ) → opening p ≡ Some (label, before) → has_room strict before ≡ true → before.symbols ≡ [] → is_outside side ≡ true
+  pub submit_line : (p : Place) (label : Option (ℕ × List ℕ)) (before : Reading) (submit : SubmitStep) (kind : PieceKind) (side : Side) (rest : List ℕ) → opening p ≡ Some (label, before) → has_room strict before ≡ true → before.symbols ≡ [] → is_outside side ≡ true
       → is_file_name submit.file ≡ true → passes is_node_name submit.snode ≡ true → passes (within 1 15) submit.prty ≡ true → IsQuotable (what.Submit submit)
       → Next Q before label (what.Submit submit) before.ifs rest → Reads (Ends Q p) kind side (what_front (what.Submit submit) (10 ∷ rest))
   unfolding is_word_byte is_blank is_quote is_sign_byte slot_of submit_slot has ended

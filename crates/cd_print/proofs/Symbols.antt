@@ -1,5 +1,5 @@
 -- The values that SUBMIT gives to names are few.
-use Rattle.std.proofs.Common.{◌≡◌, ℕ, ◌+◌, ◌*◌, ◌≤◌, Bool, true, false, List, [], ◌∷◌, length, refl, ap, subst, sym, ◌∙◌, arith, nat_le}
+use Rattle.std.proofs.Common.{◌≡◌, ℕ, ◌+◌, ◌*◌, ◌≤◌, true, List, [], ◌∷◌, length, refl, ap, subst, sym, ◌∙◌, arith, nat_le}
 use Rattle.std.specs.Prelude.{sum_by}
 use Rattle.std.specs.List.{list_all}
 use Rattle.std.proofs.lemmas.List.Sums.{sum_by-cons}
@@ -9,10 +9,8 @@ use Rattle.cd_ast.specs.declared.process.Process.{Process}
 use Rattle.cd_ast.specs.declared.process.Stmt.{Stmt}
 use Rattle.cd_ast.specs.declared.process.What.{What}
 use Rattle.cd_ast.specs.declared.process.What.TheVariants as what
-use Rattle.cd_grammar.specs.Answers.{strict}
 use Rattle.cd_grammar.specs.Tokens.{tokens_of}
-use Rattle.cd_grammar.specs.Reading.{Reading}
-use Rattle.cd_grammar.specs.Faults.{InGrammar, process_of, longest_text}
+use Rattle.cd_grammar.specs.Faults.{InGrammar, longest_text}
 use Rattle.cd_ast.specs.Canonical.{canonical}
 use Rattle.cd_machine.specs.Ranges.{is_card, are_stmts}
 use Rattle.cd_print.proofs.Lengths.{print_length}

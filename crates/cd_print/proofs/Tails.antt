@@ -1,19 +1,16 @@
 -- What a text's tokens are where it is a print, one after the other.
-use Rattle.std.proofs.Common.{◌≡◌, ℕ, ◌+◌, Bool, true, false, not, ◌&&◌, ◌||◌, List, [], ◌∷◌, ◌++◌, append_assoc, length, Option, Some, None, refl, ap, sym, subst, ◌∙◌, if◌then◌else◌}
-use Rattle.std.specs.Prelude.{◌==◌, codes}
-use Rattle.std.specs.List.{list_all, list_any}
+use Rattle.std.proofs.Common.{◌≡◌, ℕ, ◌+◌, Bool, true, false, not, ◌&&◌, List, [], ◌∷◌, ◌++◌, length, None, refl, ap, sym, subst, ◌∙◌, if◌then◌else◌}
+use Rattle.std.specs.List.{list_all}
 use Rattle.cd_ast.specs.Canonical.{quote_of}
-use Rattle.cd_ast.specs.declared.fault.FaultName.{FaultName}
 use Rattle.cd_ast.specs.declared.piece.PieceKind.{PieceKind}
 use Rattle.cd_ast.specs.declared.piece.PieceKind.TheVariants as piece
 use Rattle.cd_ast.specs.Pieces.{Piece, pieces_after}
-use Rattle.cd_ast.specs.Tokens.{open_from, flaw_in, flaw_or, is_token}
+use Rattle.cd_ast.specs.Tokens.{open_from, flaw_in, is_token}
 use Rattle.cd_grammar.specs.declared.token.Key.{Key}
 use Rattle.cd_grammar.specs.declared.token.Sign.{Sign}
-use Rattle.cd_grammar.specs.declared.token.Sign.TheVariants as sign
 use Rattle.cd_grammar.specs.declared.token.Token.{Token}
 use Rattle.cd_grammar.specs.declared.token.Token.TheVariants.{Word, Quoted, Mark}
-use Rattle.cd_grammar.specs.Tokens.{Side, Out, Named, Opening, In, behind, behind_word, behind_sign, is_blank_comma, is_comma, inside, seen_token, without_commas}
+use Rattle.cd_grammar.specs.Tokens.{Side, Out, Named, Opening, In, behind, behind_word, behind_sign, is_blank_comma, seen_token, without_commas}
 use Rattle.cd_grammar.specs.Words.{key_of, sign_of}
 use Rattle.cd_print.specs.Printable.{is_quotable}
 use Rattle.cd_print.proofs.Cuts.{tokens_from, blank_piece, line_piece, sign_piece, quoted_piece, word_piece, is_lone_sign, begins_equal, is_quote_byte, has_byte, inside_is, is_plain, begins_well, stops}

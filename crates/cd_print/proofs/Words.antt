@@ -1,9 +1,9 @@
 -- The words of a print.
-use Rattle.std.proofs.Common.{◌≡◌, ℕ, ◌+◌, ◌*◌, ◌/◌, ◌%◌, ◌<◌, ◌≤◌, Bool, true, false, not, ◌&&◌, ◌||◌, List, [], ◌∷◌, ◌++◌, length, Option, Some, None, Ok, refl, ap, sym, subst, ◌∙◌, arith, map, drop, nat_eq, nat_le, nat_lt, if◌then◌else◌}
+use Rattle.std.proofs.Common.{◌≡◌, ℕ, ◌+◌, ◌≤◌, Bool, true, false, not, ◌&&◌, ◌||◌, List, [], ◌∷◌, length, Option, Some, None, Ok, refl, ap, ◌∙◌, arith, drop, nat_eq, nat_le, nat_lt, if◌then◌else◌}
 use Rattle.std.specs.Prelude.{◌==◌, codes}
-use Rattle.std.specs.Char.{is_ascii_digit, is_ascii_uppercase, is_ascii_alphanumeric, to_ascii_uppercase, to_ascii_lowercase}
+use Rattle.std.specs.Char.{is_ascii_digit, is_ascii_alphanumeric, to_ascii_uppercase, to_ascii_lowercase}
 use Rattle.std.specs.List.{list_all, list_any}
-use Rattle.std.specs.Str.{bytes_eq, str_eq_ignore_ascii_case}
+use Rattle.std.specs.Str.{bytes_eq}
 use Rattle.cd_types.specs.Label.{is_label, is_label_byte, begins_with_letter, is_reserved, reserved_words}
 use Rattle.cd_types.specs.NodeName.{is_node_name, is_node_byte}
 use Rattle.cd_types.specs.Symbols.{upper_case}
@@ -12,8 +12,8 @@ use Rattle.cd_ast.specs.declared.piece.PieceKind.TheVariants as piece
 use Rattle.cd_ast.specs.Bytes.{is_blank, is_quote, is_sign_byte, is_word_byte}
 use Rattle.cd_grammar.specs.declared.token.Key.{Key}
 use Rattle.cd_grammar.specs.declared.token.Key.TheVariants as key
-use Rattle.cd_grammar.specs.Answers.{Answer, Fits, Wrong, Outside, ranged, taken}
-use Rattle.cd_grammar.specs.Values.{is_own, label_in, front_label_in, has_reference, number_in, is_digits, number_of}
+use Rattle.cd_grammar.specs.Answers.{Answer, Fits, Wrong, taken}
+use Rattle.cd_grammar.specs.Values.{is_own, label_in, front_label_in, has_reference, number_in, is_digits}
 use Rattle.cd_grammar.specs.Words.{is_word, said_in, key_of, or_else, or_other, statement_words, inner_words, head_words, step_words}
 use Rattle.cd_grammar.specs.Tokens.{behind_word}
 use Rattle.cd_print.proofs.Cuts.{is_plain, begins_well, may_begin}
@@ -60,7 +60,7 @@ node_plain b e = plain_by is_node_byte b e refl refl refl refl refl refl refl re
 label_plain : (b : ℕ) → is_label_byte b ≡ true → is_plain b ≡ true
 label_plain b e = plain_by is_label_byte b e refl refl refl refl refl refl refl refl refl refl refl refl refl refl refl
 
-digit_plain : (b : ℕ) → is_ascii_digit b ≡ true → is_plain b ≡ true
+pub digit_plain : (b : ℕ) → is_ascii_digit b ≡ true → is_plain b ≡ true
 digit_plain b e = plain_by is_ascii_digit b e refl refl refl refl refl refl refl refl refl refl refl refl refl refl refl
 
 not_dash : (test : ℕ → Bool) (before : PieceKind) (b : ℕ) → test b ≡ true → test 45 ≡ false → may_begin before b ≡ true

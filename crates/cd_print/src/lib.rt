@@ -1,6 +1,6 @@
-//! What may be said of the canonical print of a Process that a text says.
+//! What may be said of the canonical print of a Process: how long it is, and what is read of it.
 #![tactic(auto)]
 
 mod law;
 
-pub use law::law_of_prints;
+pub use law::{law_of_prints, law_of_sizes};
