@@ -19,7 +19,7 @@ use Rattle.cd_print.proofs.Stmts.{AreFine}
 back_sound : (text : List ℕ) (process : Process) (all : Reading) → bytes_of (pieces_of text) ≡ text → InGrammar text process → IsBack process all → late_faults all ≡ []
 unfolding late_faults
 back_sound text process all whole said back =
-    let fine : FineReading said.all = all_fine said.read (text_clean text whole) tt in
+    let fine : FineReading said.all = all_fine said.read (text_clean text whole said.good) tt in
     let marks : AreFine all.marks said.all.stmts = subst (λ (p : Process). AreFine all.marks p.stmts) said.said back.marks in
     let none : wrong_start (Some (process_of said.all).card.retain) (process_of said.all).card.start back.head.0 ++ wrong_from [] all.marks ≡ [] =
     no_fault said.all.head.retain said.all.head.start said.all.head.retain_at back.head.0 said.all.marks all.marks said.all.stmts fine.marks marks said.sound in

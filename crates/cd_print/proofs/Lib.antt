@@ -18,4 +18,5 @@ pub mod Faultless
 pub mod Again
 pub mod Bytes
 pub mod Texts
+pub mod Places
 pub mod Prints

@@ -42,12 +42,21 @@ use Rattle.cd_grammar.specs.Words.{said_in, or_else, is_word}
 use Rattle.cd_grammar.specs.Reading.{has_depth}
 use Rattle.cd_machine.specs.Ranges.{passes}
 use Rattle.std.specs.Char.{is_ascii_digit}
-use Rattle.cd_print.specs.Printable.{is_quotable, is_symbol_name, are_symbols, with_all, IsQuotable, AreQuotable, behind, AreNested, is_day}
+use Rattle.cd_print.specs.Printable.{is_quotable, is_symbol_name, are_symbols, with_all, IsQuotable, AreQuotable, behind, AreNested, is_day, IsGoodText, HaveGoodValues, HasGoodTexts, HaveGoodTexts}
 
--- a token's text can be quoted
+-- a text that can be quoted, of good bytes
+pub record FineText (body : List ℕ) : Type 0 where
+  pub quotable : is_quotable body ≡ true
+  pub good : IsGoodText body
+
+abbrev FineOption : Option (List ℕ) → Type 0
+FineOption None = Unit {0}
+FineOption (Some body) = FineText body
+
+-- a token's text is so
 abbrev pub IsClean : Token → Type 0
-IsClean (Word at k word) = is_quotable word ≡ true
-IsClean (Quoted at text) = is_quotable text ≡ true
+IsClean (Word at k word) = FineText word
+IsClean (Quoted at text) = FineText text
 IsClean (token.Mark at m) = Unit {0}
 
 abbrev pub AreClean : List Token → Type 0
@@ -55,7 +64,7 @@ AreClean [] = Unit {0}
 AreClean (t ∷ ts) = IsClean t × AreClean ts
 
 abbrev FineGiven : Given → Type 0
-FineGiven given = (passes is_quotable given.file ≡ true) × (passes is_quotable given.command ≡ true) × (passes (λ start. is_day start.day) given.start ≡ true)
+FineGiven given = FineOption given.file × FineOption given.command × (passes (λ start. is_day start.day) given.start ≡ true)
 
 abbrev FineEnd : Option Given → Type 0
 FineEnd None = Unit {0}
@@ -77,6 +86,18 @@ nests_are ifs (s ∷ stmts) last h = (h.0, h.1, nests_are h.0 stmts last h.2)
 quotable_more : (stmts : List Stmt) (s : Stmt) → AreQuotable stmts → IsQuotable s.what → AreQuotable (stmts ++ s ∷ [])
 quotable_more [] s h e = (e, tt)
 quotable_more (other ∷ stmts) s h e = (h.0, quotable_more stmts s h.1 e)
+
+texts_more : (stmts : List Stmt) (s : Stmt) → HaveGoodTexts stmts → HasGoodTexts s.what → HaveGoodTexts (stmts ++ s ∷ [])
+texts_more [] s h e = (e, tt)
+texts_more (other ∷ stmts) s h e = (h.0, texts_more stmts s h.1 e)
+
+values_more : (pairs : List (List ℕ × List ℕ)) (n v : List ℕ) → HaveGoodValues pairs → IsGoodText v → HaveGoodValues (with_symbol pairs n v)
+values_more [] n v h e = (e, tt)
+values_more (pair ∷ pairs) n v h e = by_bool (bytes_eq n pair.0) (values_more pairs n v h.1 e)
+  where
+    by_bool : (t : Bool) → HaveGoodValues (with_symbol pairs n v) → HaveGoodValues (if t then (pair.0, v) ∷ pairs else pair ∷ with_symbol pairs n v)
+    by_bool true k = (e, h.1)
+    by_bool false k = (h.0, k)
 
 -- symbols have names of their own, in upper case
 abbrev has_name : List ℕ → List (List ℕ × List ℕ) → Bool
@@ -241,6 +262,8 @@ marked_more (m ∷ ms) (s ∷ stmts) mark stmt h e = (h.0, marked_more ms stmts 
 pub record FineReading (r : Reading) : Type 0 where
   pub marks : AreMarked r.marks r.stmts
   pub stmts : AreQuotable r.stmts
+  pub texts : HaveGoodTexts r.stmts
+  pub values : HaveGoodValues r.symbols
   pub symbols : FineSymbols r.symbols
   pub nested : Nests [] r.stmts r.ifs
   pub start : passes (λ start. is_day start.day) r.head.start ≡ true
@@ -298,7 +321,7 @@ by_share : (given : Given) (b : Bool) (x : Given) → FineGiven given → shared
 by_share given true x k e = by_same (record given { share = true }) x k e
 by_share given false x k e = absurd cc
 
-word_fine : (given : Given) (set : Slot) (at : ℕ) (k : Key) (word : List ℕ) (x : Given) → FineGiven given → is_quotable word ≡ true → with_word given set at k word ≡ Fits x → FineGiven x
+word_fine : (given : Given) (set : Slot) (at : ℕ) (k : Key) (word : List ℕ) (x : Given) → FineGiven given → FineText word → with_word given set at k word ≡ Fits x → FineGiven x
 unfolding with_word
 word_fine given slot.Snode at k word x h q e = by_answer (node_in word) _ x (λ v. h) e
 word_fine given slot.Prty at k word x h q e = by_answer (number_in 1 15 word) _ x (λ v. h) e
@@ -322,7 +345,7 @@ word_fine given slot.Restart at k word x h q e = by_answer _ _ x (λ v. h) e
 word_fine given slot.Pgm at k word x h q e = by_same _ x h e
 word_fine given slot.Library at k word x h q e = by_same _ x h e
 
-quoted_fine : (given : Given) (set : Slot) (text : List ℕ) (x : Given) → FineGiven given → is_quotable text ≡ true → with_quoted given set text ≡ Fits x → FineGiven x
+quoted_fine : (given : Given) (set : Slot) (text : List ℕ) (x : Given) → FineGiven given → FineText text → with_quoted given set text ≡ Fits x → FineGiven x
 unfolding with_quoted
 quoted_fine given slot.File text x h q e = by_file text _ x (q, h.1, h.2) e
 quoted_fine given slot.Items text x h q e = by_ranged (are_items text) (record given { items = true }) x h e
@@ -349,7 +372,7 @@ list_fine given slot.Snodeid h = h
 list_fine given _ h = h
 
 nothing_fine : FineGiven nothing
-nothing_fine = (refl, refl, refl)
+nothing_fine = (tt, tt, refl)
 
 given_fine : (s : Step) → FineStep s → FineGiven (given_of s)
 given_fine (step.Head given) h = h
@@ -374,10 +397,16 @@ end_fine copy ends.From given h e = (e, h.1, h.2)
 end_fine copy ends.To given h e = (h.0, e, h.2)
 
 -- a statement more
-stored_fine : (r : Reading) (begun : Begun) (sketched : Sketch) (said : What) (opened : List Bool) → IsSketchOf sketched said → FineReading r → IsQuotable said → behind said (option_map (λ found. found.1) begun.label) r.ifs ≡ Some opened → FineReading (record (stored r begun sketched said) { ifs = opened })
+record FineWhat (said : What) : Type 0 where
+  quotable : IsQuotable said
+  good : HasGoodTexts said
+
+stored_fine : (r : Reading) (begun : Begun) (sketched : Sketch) (said : What) (opened : List Bool) → IsSketchOf sketched said → FineReading r → FineWhat said → behind said (option_map (λ found. found.1) begun.label) r.ifs ≡ Some opened → FineReading (record (stored r begun sketched said) { ifs = opened })
 stored_fine r begun sketched said opened like h q e = record {
   marks = marked_more r.marks r.stmts (record { label = begun.label; at = begun.at; what = sketched }) (record { label = option_map (λ found. found.1) begun.label; what = said }) h.marks (record { label = refl; said = like });
-  stmts = quotable_more r.stmts _ h.stmts q;
+  stmts = quotable_more r.stmts _ h.stmts q.quotable;
+  texts = texts_more r.stmts _ h.texts q.good;
+  values = tt;
   symbols = (refl, tt);
   nested = nests_more [] r.stmts r.ifs opened _ h.nested e;
   start = h.start;
@@ -386,11 +415,11 @@ stored_fine r begun sketched said opened like h q e = record {
 same_reading : (a b : Reading) → Some a ≡ Some b → a ≡ b
 same_reading a b e = cc
 
-store : (r before : Reading) (begun : Begun) (sketched : Sketch) (said : What) → IsSketchOf sketched said → FineReading r → IsQuotable said → behind said (option_map (λ found. found.1) begun.label) r.ifs ≡ Some r.ifs → Some (stored r begun sketched said) ≡ Some before → FineReading before
+store : (r before : Reading) (begun : Begun) (sketched : Sketch) (said : What) → IsSketchOf sketched said → FineReading r → FineWhat said → behind said (option_map (λ found. found.1) begun.label) r.ifs ≡ Some r.ifs → Some (stored r begun sketched said) ≡ Some before → FineReading before
 store r before begun sketched said like h q e e2 = subst (λ (x : Reading). FineReading x) (same_reading _ before e2) (stored_fine r begun sketched said r.ifs like h q e)
 
-copied_fine : (r : Reading) (begun : Begun) (from to : Given) (ckpt : Option ℕ) (a b : Option (List ℕ)) (before : Reading) → FineReading r → passes is_quotable a ≡ true → passes is_quotable b ≡ true → copied r begun from to ckpt a b ≡ Some before → FineReading before
-copied_fine r begun from to ckpt (Some a) (Some b) before h ha hb e = store r before begun _ _ tt h (ha, hb) refl e
+copied_fine : (r : Reading) (begun : Begun) (from to : Given) (ckpt : Option ℕ) (a b : Option (List ℕ)) (before : Reading) → FineReading r → FineOption a → FineOption b → copied r begun from to ckpt a b ≡ Some before → FineReading before
+copied_fine r begun from to ckpt (Some a) (Some b) before h ha hb e = store r before begun _ _ tt h (record { quotable = (ha.quotable, hb.quotable); good = (ha.good, hb.good) }) refl e
 copied_fine r begun from to ckpt None b before h ha hb e = absurd cc
 copied_fine r begun from to ckpt (Some a) None before h ha hb e = absurd cc
 
@@ -399,17 +428,17 @@ between_fine r begun ckpt (Some from) (Some to) before h ha hb e = copied_fine r
 between_fine r begun ckpt None b before h ha hb e = absurd cc
 between_fine r begun ckpt (Some from) None before h ha hb e = absurd cc
 
-run_fine : (r : Reading) (begun : Begun) (w : Work) (given : Given) (o : Option (List ℕ)) (before : Reading) → FineReading r → passes is_quotable o ≡ true → run r begun w given o ≡ Some before → FineReading before
-run_fine r begun w given (Some command) before h q e = store r before begun _ _ tt h q refl e
+run_fine : (r : Reading) (begun : Begun) (w : Work) (given : Given) (o : Option (List ℕ)) (before : Reading) → FineReading r → FineOption o → run r begun w given o ≡ Some before → FineReading before
+run_fine r begun w given (Some command) before h q e = store r before begun _ _ tt h (record { quotable = q.quotable; good = q.good }) refl e
 run_fine r begun w given None before h q e = absurd cc
 
-submitted_fine : (r : Reading) (begun : Begun) (given : Given) (o : Option (List ℕ)) (before : Reading) → FineReading r → passes is_quotable o ≡ true → submitted r begun given o ≡ Some before → FineReading before
-submitted_fine r begun given (Some file) before h q e = store r before begun _ _ tt h (q, h.symbols.0, all_same [] r.symbols h.symbols.1) refl e
+submitted_fine : (r : Reading) (begun : Begun) (given : Given) (o : Option (List ℕ)) (before : Reading) → FineReading r → FineOption o → submitted r begun given o ≡ Some before → FineReading before
+submitted_fine r begun given (Some file) before h q e = store r before begun _ _ tt h (record { quotable = (q.quotable, h.symbols.0, all_same [] r.symbols h.symbols.1); good = (q.good, h.values) }) refl e
 submitted_fine r begun given None before h q e = absurd cc
 
 ended_fine : (r before : Reading) (s : Step) → FineReading r → FineStep s → ended r s ≡ Some before → FineReading before
 unfolding ended
-ended_fine r before (step.Head given) h f e = subst (λ (x : Reading). FineReading x) (same_reading _ before e) (record { marks = h.marks; stmts = h.stmts; symbols = h.symbols; nested = h.nested; start = f.2 })
+ended_fine r before (step.Head given) h f e = subst (λ (x : Reading). FineReading x) (same_reading _ before e) (record { marks = h.marks; stmts = h.stmts; texts = h.texts; values = h.values; symbols = h.symbols; nested = h.nested; start = f.2 })
 ended_fine r before step.Between h f e = subst (λ (x : Reading). FineReading x) (same_reading _ before e) h
 ended_fine r before (step.Copy begun copy) h f e = between_fine r begun copy.others.ckpt copy.from copy.to before h f.0 f.1 e
 ended_fine r before (step.Group begun copy end given) h f e = absurd cc
@@ -499,11 +528,13 @@ day_is word d e = by_option (said_in named_days word) refl e
     by_option None f g2 = date_day word d g2
 
 -- what is read of the tokens
-symbol_fine : (r : Reading) (s : Step) (name text : List ℕ) → FineReading r → is_symbol_name name ≡ true → is_quotable text ≡ true → FineReading (with_name r s (upper_case name) text)
+symbol_fine : (r : Reading) (s : Step) (name text : List ℕ) → FineReading r → is_symbol_name name ≡ true → FineText text → FineReading (with_name r s (upper_case name) text)
 symbol_fine r (step.Submit begun given) name text h e q = record {
   marks = h.marks;
   stmts = h.stmts;
-  symbols = (symbols_more r.symbols (upper_case name) text h.symbols.0 (symbol_upper name e) q, own_more r.symbols (upper_case name) text h.symbols.1 (uppers_twice name));
+  texts = h.texts;
+  values = values_more r.symbols (upper_case name) text h.values q.good;
+  symbols = (symbols_more r.symbols (upper_case name) text h.symbols.0 (symbol_upper name e) q.quotable, own_more r.symbols (upper_case name) text h.symbols.1 (uppers_twice name));
   nested = h.nested;
   start = h.start;
 }
@@ -524,16 +555,16 @@ unfolding symbol_in
 symbol_name [] name e = absurd cc
 symbol_name (b ∷ bytes) name e = symbol_by (is_symbol_name bytes) (b == 38) bytes name refl e
 
-text_clean : (value : Token) (text : List ℕ) → IsClean value → text_of value ≡ Some text → is_quotable text ≡ true
-text_clean (Word at k word) text h e = let same : word ≡ text = cc in subst (λ (x : List ℕ). is_quotable x ≡ true) same h
-text_clean (Quoted at bytes) text h e = let same : bytes ≡ text = cc in subst (λ (x : List ℕ). is_quotable x ≡ true) same h
+text_clean : (value : Token) (text : List ℕ) → IsClean value → text_of value ≡ Some text → FineText text
+text_clean (Word at k word) text h e = let same : word ≡ text = cc in subst (λ (x : List ℕ). FineText x) same h
+text_clean (Quoted at bytes) text h e = let same : bytes ≡ text = cc in subst (λ (x : List ℕ). FineText x) same h
 text_clean (token.Mark at m) text h e = absurd cc
 
 deep_if : (before : Reading) (at : ℕ) (ifs : List Bool) → has_depth strict at before ≡ true → (if nat_lt (length before.ifs) 16 then Some ifs else None) ≡ Some ifs
 deep_if before at ifs e = rw e refl
 
 pub all_fine : {p : Place} {ts : List Token} {all : Reading} → Rest strict p ts all → AreClean ts → FinePlace p → FineReading all
-all_fine (g.process e rest) q h = all_fine rest q.1.1 (record { marks = tt; stmts = tt; symbols = (refl, tt); nested = refl; start = refl }, nothing_fine)
+all_fine (g.process e rest) q h = all_fine rest q.1.1 (record { marks = tt; stmts = tt; texts = tt; values = tt; symbols = (refl, tt); nested = refl; start = refl }, nothing_fine)
 all_fine (g.param {step = s} {at = at} {set = set} {value = value} {next = later} e unused fits rest) q h =
     all_fine rest q.1.1.1 (h.0, with_fine s later h.1 (value_fine (given_of s) set at value later (given_fine s h.1) q.1.1.0 fits))
 all_fine (g.in_parentheses {step = s} {at = at} {set = set} {value = value} {next = later} e unused parens fits rest) q h =
@@ -566,14 +597,14 @@ all_fine (g.copy {p = p} {before = before} {named = label} e room rest) q h = al
 all_fine (g.run {p = p} {before = before} {named = label} e room w rest) q h = all_fine rest q.1.1 (opening_fine p label before h e, nothing_fine)
 all_fine (g.submit {p = p} {before = before} {named = label} e room rest) q h = all_fine rest q.1 (opening_fine p label before h e, nothing_fine)
 all_fine (g.if_then {p = p} {before = before} {named = label} {at = at} {at3 = at3} {n = n} {name = name} {relates = relates} e room deep e3 related fits rest) q h =
-    all_fine rest q.1.1.1.1.1.1.1 (stored_fine before (begun_at label at) (sketch.If at3 name) (what.If name relates n) (false ∷ before.ifs) refl (opening_fine p label before h e) tt (deep_if before at (false ∷ before.ifs) deep), tt)
+    all_fine rest q.1.1.1.1.1.1.1 (stored_fine before (begun_at label at) (sketch.If at3 name) (what.If name relates n) (false ∷ before.ifs) refl (opening_fine p label before h e) (record { quotable = tt; good = tt }) (deep_if before at (false ∷ before.ifs) deep), tt)
 all_fine (g.else_part {r = r} {before = before} {step = s} {at = at} {ifs = ifs} e room open2 rest) q h =
-    all_fine rest q.1 (stored_fine before (begun_at None at) sketch.Else what.Else (true ∷ ifs) tt (ended_fine r before s h.0 h.1 e) tt (rw open2 refl), tt)
+    all_fine rest q.1 (stored_fine before (begun_at None at) sketch.Else what.Else (true ∷ ifs) tt (ended_fine r before s h.0 h.1 e) (record { quotable = tt; good = tt }) (rw open2 refl), tt)
 all_fine (g.eif {r = r} {before = before} {step = s} {at = at} {ifs = ifs} e room open2 rest) q h =
-    all_fine rest q.1 (stored_fine before (begun_at None at) sketch.Eif what.Eif ifs tt (ended_fine r before s h.0 h.1 e) tt (rw open2 refl), tt)
+    all_fine rest q.1 (stored_fine before (begun_at None at) sketch.Eif what.Eif ifs tt (ended_fine r before s h.0 h.1 e) (record { quotable = tt; good = tt }) (rw open2 refl), tt)
 all_fine (g.goto {p = p} {before = before} {named = label} {at = at} {at2 = at2} {name = name} e room e2 rest) q h =
-    all_fine rest q.1.1 (stored_fine before (begun_at label at) (sketch.Goto at2 name) (what.Goto name) before.ifs refl (opening_fine p label before h e) tt refl, tt)
+    all_fine rest q.1.1 (stored_fine before (begun_at label at) (sketch.Goto at2 name) (what.Goto name) before.ifs refl (opening_fine p label before h e) (record { quotable = tt; good = tt }) refl, tt)
 all_fine (g.exit {p = p} {before = before} {named = label} {at = at} e room rest) q h =
-    all_fine rest q.1 (stored_fine before (begun_at label at) sketch.Exit what.Exit before.ifs tt (opening_fine p label before h e) tt refl, tt)
+    all_fine rest q.1 (stored_fine before (begun_at label at) sketch.Exit what.Exit before.ifs tt (opening_fine p label before h e) (record { quotable = tt; good = tt }) refl, tt)
 all_fine (g.pend {r = r} {all = all} {step = s} e) q h = ended_fine r all s h.0 h.1 e
 all_fine (g.pend_semicolon {r = r} {all = all} {step = s} e) q h = ended_fine r all s h.0 h.1 e

@@ -29,15 +29,17 @@ pub fn law_of_sizes()
 }
 
 /// The tokens of a print are read as the Process that it is of, and none of its pieces is a fault, where the Process has values
-/// in range, texts that can be quoted, and statements that may stand one behind the other. Each Process that a text says is so: its
-/// print is a text that says it again, where that isn't too long for a text and its files,
-/// commands and values are UTF-8 without a byte that no text may have.
+/// in range, texts that can be quoted, and statements that may stand one behind the other. Each Process that a text says is so,
+/// and its files, commands and values are UTF-8 without a byte that no text may have: its print is a text that says it again,
+/// where that isn't too long for a text. After substitution it never is.
 pub fn law_of_prints()
     ensures read_back { (process : Process) → IsPrintable process → (all : Reading) × IsRead strict (tokens_of (canonical process)) all × (process ≡ process_of all) }
     ensures whole { (process : Process) → IsPrintable process → open_from 0 (pieces_of (canonical process)) ≡ None }
-    ensures again { (text : List ℕ) (process : Process) → InGrammar text process → length (canonical process) ≤ longest_plain → HaveGoodTexts process.stmts → InGrammar (canonical process) process }
-    ensures again_resolved { (text : List ℕ) (overrides : List (List ℕ × List ℕ)) (process : Process) → Says text overrides process → HaveGoodTexts process.stmts → InGrammar (canonical process) process }
+    ensures again { (text : List ℕ) (process : Process) → InGrammar text process → length (canonical process) ≤ longest_plain → InGrammar (canonical process) process }
+    ensures again_resolved { (text : List ℕ) (overrides : List (List ℕ × List ℕ)) (process : Process) → Says text overrides process → InGrammar (canonical process) process }
     ensures printable { (text : List ℕ) (process : Process) → InGrammar text process → IsPrintable process }
+    ensures good_texts { (text : List ℕ) (process : Process) → InGrammar text process → HaveGoodTexts process.stmts }
+    ensures good_texts_resolved { (text : List ℕ) (overrides : List (List ℕ × List ℕ)) (process : Process) → Says text overrides process → HaveGoodTexts process.stmts }
 {
     law_of_tokens();
     law_of_printed_values();
