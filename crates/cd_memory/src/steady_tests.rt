@@ -29,26 +29,28 @@ fn files_keep_their_names_in_order(rt: HostRuntime) -> Result<(), Fail> {
     Ok(())
 }
 
-// The piece of the first session comes only once the second one was given three bytes.
+// The piece of the second session comes only once it was given three bytes.
 #[test]
 fn lines_give_what_is_offered(rt: HostRuntime) -> Result<(), Fail> {
     let mut lines = SteadyLines::new(rt.alloc())?;
     lines.room(8, 16)?;
-    lines.offer(1, b"ab", Some((2, 3)))?;
-    lines.incoming(2)?;
+    lines.offer(2, b"ab", Some((2, 3)))?;
+    lines.incoming(1)?;
     lines.listen(1364)?;
-    let one = lines.accept()?.ok_or("none waits")?;
-    let two = lines.accept()?.ok_or("none waits")?;
+    assert!(rt; lines.accept()?.is_some());
     assert_eq!(rt; lines.accept()?, None);
+    let Ok(two) = lines.connect(b"host", 1) else {
+        return Err(Fail::from("no session"));
+    };
     let mut into = [0; 4];
-    assert_eq!(rt; lines.receive(one, &mut into)?, 0);
-    lines.send(two, b"xyz")?;
-    assert_eq!(rt; lines.receive(one, &mut into)?, 2);
+    lines.send(two, b"xy")?;
+    assert_eq!(rt; lines.receive(two, &mut into)?, 0);
+    lines.send(two, b"z")?;
+    assert_eq!(rt; lines.receive(two, &mut into)?, 2);
     assert_eq!(rt; into, [97, 98, 0, 0]);
     assert_eq!(rt; lines.given(2), b"xyz".as_slice());
     assert_eq!(rt; lines.given(3), b"".as_slice());
     lines.close(two);
-    assert!(rt; lines.connect(b"host", 1).is_ok());
     Ok(())
 }
 
