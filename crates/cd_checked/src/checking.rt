@@ -71,9 +71,9 @@ fn is_formed(entry: &Entry) -> bool
 /// Whether an entry may be recorded now.
 fn may_record<T: Texts>(desk: &Desk<T>, now: Moment, entry: &Entry) -> bool
     requires { is_submission entry.now ≡ false }
-    ensures { result ≡ may_record T.read now desk.now.book.entries entry.now }
+    ensures { result ≡ may_record T.read now desk.now.book.now.entries entry.now }
 {
-    may_follow(&desk.book, entry, None) && is_by(now, moment_of(entry)) && is_formed(entry)
+    may_follow(desk.book, entry, None) && is_by(now, moment_of(entry)) && is_formed(entry)
 }
 
 /// The entry that deeds record, where one does.
@@ -97,7 +97,7 @@ fn kept_in<'d>(deeds: &'d [Deed<'_>]) -> Option<&'d Entry>
 /// Whether the one entry of these deeds may be recorded now.
 fn is_entry_allowed<T: Texts>(desk: &Desk<T>, now: Moment, deeds: &[Deed<'_>]) -> bool
     requires { keeps_one (map seen_deed deeds.now) ≡ true }
-    ensures { result ≡ allowed_kept T.read now desk.now.book.entries (kept_in deeds.now) }
+    ensures { result ≡ allowed_kept T.read now desk.now.book.now.entries (kept_in deeds.now) }
 {
     match kept_in(deeds) {
         None => true,
@@ -108,7 +108,7 @@ fn is_entry_allowed<T: Texts>(desk: &Desk<T>, now: Moment, deeds: &[Deed<'_>]) -
 /// Whether the one entry of these deeds may be recorded now, and their frames are in their form.
 fn are_allowed<T: Texts>(desk: &Desk<T>, now: Moment, deeds: &[Deed<'_>]) -> bool
     requires { keeps_one (map seen_deed deeds.now) ≡ true }
-    ensures { result ≡ are_allowed T.read now desk.now.book.entries (map seen_deed deeds.now) }
+    ensures { result ≡ are_allowed T.read now desk.now.book.now.entries (map seen_deed deeds.now) }
 {
     let entry = is_entry_allowed(desk, now, deeds);
     let frames = are_sent(deeds);
@@ -125,7 +125,7 @@ pub fn checked<'a, T: Texts>(
     part: Part<'a>,
 ) -> Result<Part<'a>, NoMemory>
     requires { keeps_one (seen_part part).deeds ≡ true }
-    ensures { IfOk result (λ made. seen_part made ≡ checked (desk_of T.read desk.now.config desk.now.book.entries) now phase.now (seen_part part.entry)) }
+    ensures { IfOk result (λ made. seen_part made ≡ checked (desk_of T.read desk.now.config.now desk.now.book.now.entries) now phase.now (seen_part part.entry)) }
 {
     if are_allowed(desk, now, part.deeds.as_slice()) {
         Ok(part)

@@ -23,7 +23,7 @@ fn unchecked<'a, T: Texts>(
     answers: &Answers<'a>,
     then: &Then,
 ) -> Result<Part<'a>, NoMemory>
-    ensures { IfOk result (λ part. seen_part part ≡ part_behind (desk_of T.read desk.now.config desk.now.book.entries) now phase.now (record { now = now; there = answers.now.there; source = answers.now.source; bytes = answers.now.bytes.now }) then.now) }
+    ensures { IfOk result (λ part. seen_part part ≡ part_behind (desk_of T.read desk.now.config.now desk.now.book.now.entries) now phase.now (record { now = now; there = answers.now.there; source = answers.now.source; bytes = answers.now.bytes.now }) then.now) }
 {
     match then {
         Then::Done => Ok(only(Vec::new(alloc))),
@@ -64,7 +64,7 @@ pub fn part_behind<'a, T: Texts>(
     answers: &Answers<'a>,
     then: &Then,
 ) -> Result<Part<'a>, NoMemory>
-    ensures { IfOk result (λ part. seen_part part ≡ checked (desk_of T.read desk.now.config desk.now.book.entries) now phase.now (part_behind (desk_of T.read desk.now.config desk.now.book.entries) now phase.now (record { now = now; there = answers.now.there; source = answers.now.source; bytes = answers.now.bytes.now }) then.now)) }
+    ensures { IfOk result (λ part. seen_part part ≡ checked (desk_of T.read desk.now.config.now desk.now.book.now.entries) now phase.now (part_behind (desk_of T.read desk.now.config.now desk.now.book.now.entries) now phase.now (record { now = now; there = answers.now.there; source = answers.now.source; bytes = answers.now.bytes.now }) then.now)) }
 {
     let part = unchecked(alloc, desk, now, phase, answers, then)?;
     let made = checked(alloc, desk, now, phase, part)?;

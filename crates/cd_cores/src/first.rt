@@ -1,21 +1,18 @@
 //! A frame comes.
-ghost use Rattle.std.specs.Prelude.{◌≡◌, true, option_map, IfOk};
+ghost use Rattle.std.specs.Prelude.{◌≡◌, true, IfOk};
 ghost use Rattle.cd_frames.specs.Message.{message_of};
 ghost use Rattle.cd_legal.specs.Legal.{is_legal};
 ghost use Rattle.cd_moves.specs.Rows.{part_in, first_part, is_dead, row_accept};
 ghost use Rattle.cd_moves.specs.Node.{only};
 ghost use Rattle.cd_moves.specs.Seen.{seen_part};
 ghost use Rattle.cd_parts.specs.Desk.{desk_of};
-ghost use Rattle.cd_parts.specs.Sessions.{phase_in, sessions_of};
-ghost use Rattle.cd_cores.specs.Found.{found_phase};
 
 use cd_book::Texts;
 use cd_checked::checked;
 use cd_frames::Frame;
 use cd_moves::{Part, Phase};
 use cd_parts::{
-    Desk, Session, Sessions, close, key_under_way, only_one, own_number, quietly, row_send,
-    row_take,
+    Desk, Sessions, close, key_under_way, only_one, own_number, quietly, row_send, row_take,
 };
 use cd_pnode::{row_ask, row_await, row_greet};
 use cd_snode::{row_fresh, row_offer, row_ready};
@@ -23,17 +20,17 @@ use cd_types::{Moment, NoMemory, ProcNo};
 use std::alloc::Global;
 
 /// The part for a frame in a phase, before it is checked. The journal is legal.
-fn part_in<'a, T: Texts>(
+fn part_in<'a, T: Texts, S: Sessions>(
     alloc: Global,
     desk: &Desk<T>,
-    sessions: &Sessions,
+    sessions: &S,
     now: Moment,
     sid: u64,
     frame: &Frame<'a>,
     phase: &Phase,
 ) -> Result<Part<'a>, NoMemory>
-    requires { is_legal T.read desk.now.book.entries ≡ true }
-    ensures { IfOk result (λ part. seen_part part ≡ part_in (desk_of T.read desk.now.config desk.now.book.entries) (sessions_of sessions.now) now sid (message_of frame.now) phase.now) }
+    requires { is_legal T.read desk.now.book.now.entries ≡ true }
+    ensures { IfOk result (λ part. seen_part part ≡ part_in (desk_of T.read desk.now.config.now desk.now.book.now.entries) (S.seen sessions.now) now sid (message_of frame.now) phase.now) }
 {
     match phase {
         Phase::Gone => {
@@ -79,25 +76,9 @@ fn part_in<'a, T: Texts>(
     }
 }
 
-/// The phase of a session, where there is one.
-fn phase_of(phases: &[Session], sid: u64) -> Option<&Phase>
-    ensures { found_phase (option_map (λ p. p.now) result) ≡ phase_in phases.now sid }
-{
-    match phases {
-        [] => None,
-        [first, more @ ..] => {
-            if sid == first.sid {
-                Some(&first.phase)
-            } else {
-                phase_of(more, sid)
-            }
-        }
-    }
-}
-
 /// Whether the Process of a session isn't live any more.
 fn is_dead<T: Texts>(desk: &Desk<T>, number: Option<ProcNo>) -> bool
-    ensures { result ≡ is_dead (desk_of T.read desk.now.config desk.now.book.entries) number }
+    ensures { result ≡ is_dead (desk_of T.read desk.now.config.now desk.now.book.now.entries) number }
 {
     match number {
         None => false,
@@ -105,19 +86,19 @@ fn is_dead<T: Texts>(desk: &Desk<T>, number: Option<ProcNo>) -> bool
     }
 }
 
-/// The first part for a frame of a session that is in this phase. The journal is legal.
-fn first_in<'a, T: Texts>(
+/// The first part of what is done about a frame of a session that is in this phase. The journal is legal.
+pub fn first_part<'a, T: Texts, S: Sessions>(
     alloc: Global,
     desk: &Desk<T>,
-    sessions: &Sessions,
+    sessions: &S,
     now: Moment,
     sid: u64,
     frame: &Frame<'a>,
     phase: &Phase,
 ) -> Result<Part<'a>, NoMemory>
-    requires legal { is_legal T.read desk.now.book.entries ≡ true }
-    requires phase { phase.now ≡ (sessions_of sessions.now).phase sid }
-    ensures { IfOk result (λ part. seen_part part ≡ first_part (desk_of T.read desk.now.config desk.now.book.entries) (sessions_of sessions.now) now sid (message_of frame.now)) }
+    requires legal { is_legal T.read desk.now.book.now.entries ≡ true }
+    requires phase { phase.now ≡ (S.seen sessions.now).phase sid }
+    ensures { IfOk result (λ part. seen_part part ≡ first_part (desk_of T.read desk.now.config.now desk.now.book.now.entries) (S.seen sessions.now) now sid (message_of frame.now)) }
 {
     if is_dead(desk, own_number(phase)) || sessions.is_detached(sid, key_under_way(phase)) {
         let part = close(alloc, desk, now, phase)?;
@@ -126,30 +107,6 @@ fn first_in<'a, T: Texts>(
         let row = part_in(alloc, desk, sessions, now, sid, frame, phase)?;
         let made = checked(alloc, desk, now, phase, row)?;
         Ok(made)
-    }
-}
-
-/// The first part of what is done about a frame of a session. The journal is legal.
-pub fn first_part<'a, T: Texts>(
-    alloc: Global,
-    desk: &Desk<T>,
-    sessions: &Sessions,
-    now: Moment,
-    sid: u64,
-    frame: &Frame<'a>,
-) -> Result<Part<'a>, NoMemory>
-    requires { is_legal T.read desk.now.book.entries ≡ true }
-    ensures { IfOk result (λ part. seen_part part ≡ first_part (desk_of T.read desk.now.config desk.now.book.entries) (sessions_of sessions.now) now sid (message_of frame.now)) }
-{
-    match phase_of(sessions.phases.as_slice(), sid) {
-        None => {
-            let part = first_in(alloc, desk, sessions, now, sid, frame, &Phase::Gone)?;
-            Ok(part)
-        }
-        Some(phase) => {
-            let part = first_in(alloc, desk, sessions, now, sid, frame, phase)?;
-            Ok(part)
-        }
     }
 }
 

@@ -13,19 +13,20 @@ pub struct Holding {
     pub sid: Sid,
 }
 
-/// Which session holds which key. Contracts see the holdings, the newest first; of a key the newest one counts.
+/// Which session holds which key. The holdings stand with the newest first, and so contracts see them; of a key the newest one
+/// counts.
 #[derive(Debug, Drop)]
 pub struct Holders {
     holdings: Vec<Holding>,
 }
 
 impl Model for Holders {
-    ghost use Rattle.std.specs.Prelude.{List, reverse};
+    ghost use Rattle.std.specs.Prelude.{List};
     ghost use Rattle.cd_deeds.specs.declared.holders.Holding.{Holding};
 
     ghost Value = { List Holding };
 
-    ghost view = { λ holders. reverse holders.holdings.items };
+    ghost view = { λ holders. holders.holdings.items };
 }
 
 impl Holders {
@@ -43,7 +44,14 @@ impl Holders {
         ensures held { OnOk result (self.new ≡ holding ∷ self.old) }
         ensures same { OnErr result (self.new ≡ self.old) }
     {
-        self.holdings.push(holding)?;
+        self.holdings.insert(0, holding)?;
         Ok(())
+    }
+
+    /// The holdings, the newest first.
+    pub fn holdings(&self) -> &[Holding]
+        ensures { result.now ≡ self.now }
+    {
+        &self.holdings
     }
 }

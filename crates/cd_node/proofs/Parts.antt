@@ -1,5 +1,5 @@
 -- A part that is done leaves what the next one needs.
-use Rattle.std.proofs.Common.{◌≡◌, ℕ, ◌≤◌, true, List, [], refl, sym, subst}
+use Rattle.std.proofs.Common.{◌≡◌, ℕ, ◌≤◌, true, List, [], ◌∷◌, refl, sym, ◌∙◌, subst}
 use Rattle.std.proofs.lemmas.List.{append-nil}
 use Rattle.cd_entries.specs.declared.entry.Entry.{Entry}
 use Rattle.cd_status.specs.Processes.{latest}
@@ -11,7 +11,8 @@ use Rattle.cd_moves.specs.declared.session.Then.{Then}
 use Rattle.cd_moves.specs.Node.{Node, Deed, Part, Answers}
 use Rattle.cd_moves.specs.Rows.{part_behind, are_allowed}
 use Rattle.cd_moves.specs.RowsLaw.{checked_fits, part_legal, part_on_time}
-use Rattle.cd_deeds.specs.Stands.{Spot, Stands, WereDone, holder_of}
+use Rattle.cd_deeds.specs.Stands.{Spot, Stands, WereDone, WereCut, holder_of}
+use Rattle.cd_deeds.specs.declared.fault.Fault.{Fault}
 use Rattle.cd_node.specs.Question.{Setting, desk_with, part_at}
 
 -- a node that stands so
@@ -51,6 +52,23 @@ module _ (setting : Setting) (read : Reading) (priorities : HavePriorities read)
       let node : Node = node_at setting read before in
       subst (λ (es : List Entry). latest es ≤ now) (done.node node (node_stands files_told setting read sid before)).journal
       (part_on_time sid now deeds [] node early (subst (λ (ds : List Deed). are_allowed read now before.entries ds ≡ true) (sym (append-nil deeds)) fits))
+
+  -- so it is where they were cut off
+  pub cut_legal : (files_told lines_told : Type 0) (sid : ℕ) (deeds : List Deed) (fault : Fault) (before after : Spot) → is_legal read before.entries ≡ true → are_allowed read now before.entries deeds ≡ true
+      → WereCut files_told lines_told sid deeds fault before after → is_legal read after.entries ≡ true
+  unfolding node_at
+  cut_legal files_told lines_told sid deeds fault before after legal fits cut =
+      let node : Node = node_at setting read before in
+      subst (λ (es : List Entry). is_legal read es ≡ true) ((cut.first.node node (node_stands files_told setting read sid before)).journal ∙ sym cut.rest.entries)
+      (part_legal sid now cut.done (cut.torn ∷ cut.more) node legal (subst (λ (ds : List Deed). are_allowed read now before.entries ds ≡ true) cut.parts fits))
+
+  pub cut_on_time : (files_told lines_told : Type 0) (sid : ℕ) (deeds : List Deed) (fault : Fault) (before after : Spot) → latest before.entries ≤ now → are_allowed read now before.entries deeds ≡ true
+      → WereCut files_told lines_told sid deeds fault before after → latest after.entries ≤ now
+  unfolding node_at
+  cut_on_time files_told lines_told sid deeds fault before after early fits cut =
+      let node : Node = node_at setting read before in
+      subst (λ (es : List Entry). latest es ≤ now) ((cut.first.node node (node_stands files_told setting read sid before)).journal ∙ sym cut.rest.entries)
+      (part_on_time sid now cut.done (cut.torn ∷ cut.more) node early (subst (λ (ds : List Deed). are_allowed read now before.entries ds ≡ true) cut.parts fits))
 
   -- the same of the part as it was made, over the book
   pub made_fits : (entries book : List Entry) (phase : Phase) (answers : Answers) (then_what : Then) (part : Part) → book ≡ entries → part ≡ part_at (desk_with setting read book) phase answers then_what

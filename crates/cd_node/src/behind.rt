@@ -80,8 +80,8 @@ pub(crate) fn go_behind<T: Texts, R: Rules<T>, D: Disk, F: Files, L: Lines>(
         ⊎ ((IsAnswered (question_of (desk_with (R.setting rules.now) T.read registry.old.entries) then.now) (answers_of now given.old buffer.old.items) (answers_of now given.new buffer.new.items)) × Moments (JointAt (D.state disk.old) (F.state files.old)) (JointAt (D.state disk.new) (F.state files.new)) beat.old (IsWithin sid.number (part_at (desk_with (R.setting rules.now) T.read registry.old.entries) phase.old (answers_of now given.new buffer.new.items) then.now).deeds node))) }
 
     // What stands then.
-    ensures legal { OnOk result (is_legal T.read registry.new.entries ≡ true) }
-    ensures on_time { OnOk result (latest registry.new.entries ≤ now) }
+    ensures legal { is_legal T.read registry.new.entries ≡ true }
+    ensures on_time { latest registry.new.entries ≤ now }
     ensures registry { D.told → result ≢ Err Fault.Disk → IsRegistry registry.new (D.state disk.new) }
     ensures header { registry.new.journal.has_header ≡ true }
     ensures sound { result ≢ Err Fault.Disk → registry.new.journal.sound ≡ true }

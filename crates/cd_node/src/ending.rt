@@ -62,8 +62,8 @@ pub fn on_end<T: Texts, R: Rules<T>, D: Disk, F: Files, L: Lines>(
         → Moments (JointAt (D.state disk.old) (F.state files.old)) (JointAt (D.state disk.new) (F.state files.new)) beat.old (IsWithin sid.number (row_end node sid.number now) node) }
 
     // What stands then.
-    ensures legal { OnOk result (is_legal T.read registry.new.entries ≡ true) }
-    ensures on_time { OnOk result (latest registry.new.entries ≤ now) }
+    ensures legal { is_legal T.read registry.new.entries ≡ true }
+    ensures on_time { latest registry.new.entries ≤ now }
     ensures registry { D.told → result ≢ Err Fault.Disk → IsRegistry registry.new (D.state disk.new) }
     ensures header { registry.new.journal.has_header ≡ true }
     ensures sound { result ≢ Err Fault.Disk → registry.new.journal.sound ≡ true }
@@ -132,8 +132,8 @@ pub fn on_trouble<T: Texts, R: Rules<T>, D: Disk, F: Files, L: Lines>(
         → Moments (JointAt (D.state disk.old) (F.state files.old)) (JointAt (D.state disk.new) (F.state files.new)) beat.old (IsWithin sid.number (row_trouble node sid.number now) node) }
 
     // What stands then.
-    ensures legal { OnOk result (is_legal T.read registry.new.entries ≡ true) }
-    ensures on_time { OnOk result (latest registry.new.entries ≤ now) }
+    ensures legal { is_legal T.read registry.new.entries ≡ true }
+    ensures on_time { latest registry.new.entries ≤ now }
     ensures registry { D.told → result ≢ Err Fault.Disk → IsRegistry registry.new (D.state disk.new) }
     ensures header { registry.new.journal.has_header ≡ true }
     ensures sound { result ≢ Err Fault.Disk → registry.new.journal.sound ≡ true }

@@ -86,8 +86,8 @@ pub(crate) fn go_on<T: Texts, R: Rules<T>, D: Disk, F: Files, L: Lines>(
         → MayLeave sid.number now (λ answers. rest most_parts node sid.number answers then) node (JointAt (D.state disk.old) (F.state files.old)) (JointAt (D.state disk.new) (F.state files.new)) beat.old) }
 
     // What stands then.
-    ensures legal { OnOk result (is_legal T.read registry.new.entries ≡ true) }
-    ensures on_time { OnOk result (latest registry.new.entries ≤ now) }
+    ensures legal { is_legal T.read registry.new.entries ≡ true }
+    ensures on_time { latest registry.new.entries ≤ now }
     ensures registry { D.told → result ≢ Err Fault.Disk → IsRegistry registry.new (D.state disk.new) }
     ensures header { registry.new.journal.has_header ≡ true }
     ensures sound { result ≢ Err Fault.Disk → registry.new.journal.sound ≡ true }

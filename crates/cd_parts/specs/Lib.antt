@@ -1,5 +1,4 @@
 pub mod Desk
-pub mod Sessions
 pub mod Single
 pub mod SingleLaw
 pub mod Within

@@ -31,10 +31,10 @@ use Rattle.cd_moves.specs.declared.session.Talk.{Talk}
 use Rattle.cd_moves.specs.declared.session.Then.{Then}
 use Rattle.cd_moves.specs.declared.session.Then.TheVariants.{Done, Next, Undo, Push, Offered, Onto, Piece}
 use Rattle.cd_moves.specs.Node.{Desk, Sessions, Deed, Keep, Touch, Go, Part, Answers, only, behind, Begin}
-use Rattle.cd_moves.specs.Closing.{own_number, retry, retry_own, close, is_running, waits_for}
+use Rattle.cd_moves.specs.Closing.{own_number, key_under_way, retry, retry_own, close, trouble, is_running, waits_for}
 use Rattle.cd_moves.specs.Sending.{send_from, push, push_of, source_known, copy, begin, step_at, next_step, next, settled, key_at, after_sending, interval_of, ended, pull, piece_len}
 use Rattle.cd_moves.specs.Receiving.{failed, answer, undone, given_up, resume, receive_again, receive_first, receive_from, receive, target_known, marks_at, take_piece, land, is_new, is_there, kept_base, receive_anew, receiving_of, drop_back, gives_up, is_same_receiving}
-use Rattle.cd_moves.specs.Rows.{held, rejected, run, row_greet, ready_from, row_await, announced_by, receive_announced, row_ask, row_send, row_take_of, row_take, welcome, row_fresh, offered, is_of_talk, is_newer, with_number, forget, checked, unless_done, take_step, row_ready, row_offer, part_in, part_behind, place_in, own_talk, is_called}
+use Rattle.cd_moves.specs.Rows.{held, rejected, run, row_greet, ready_from, row_await, announced_by, receive_announced, row_ask, row_send, row_take_of, row_take, welcome, row_fresh, offered, is_of_talk, is_newer, with_number, forget, are_allowed, checked, is_dead, is_detached, first_part, unless_done, take_step, row_ready, row_offer, part_in, part_behind, place_in, own_talk, is_called}
 use Rattle.cd_parts.specs.Single.{keeps_one}
 use Rattle.cd_legal.specs.Legal.{greatest_file}
 use Rattle.cd_status.specs.Openings.{is_in_use}
@@ -67,7 +67,7 @@ module _ (desk : Desk) (now : ℕ) where
   retry_own-one None = (record { is = refl })
   retry_own-one (Some n) = retry-one n (placing desk.journal n)
 
-  close-one : (phase : Phase) → One (only (close desk now phase))
+  pub close-one : (phase : Phase) → One (only (close desk now phase))
   close-one phase = record { is = (retry_own-one (own_number phase)).is }
 
   -- sending
@@ -251,3 +251,17 @@ module _ (desk : Desk) (now : ℕ) where
   part_behind-one phase answers (Offered talk key name interval) = offered-one talk key name interval answers.source
   part_behind-one phase answers (Onto role talk key a) = target_known-one role talk key a answers.there
   part_behind-one phase answers (Piece role talk key source offset) = either (length {A = ℕ} answers.bytes == piece_len talk source offset) (only (Go (Send role talk key source (offset + piece_len talk source offset)) (message.Data key offset answers.bytes ∷ []) ∷ [])) (only (Go (after_sending role talk key source) (message.Abort key SourceChanged ∷ []) ∷ [])) (record { is = refl }) (record { is = refl })
+
+  -- what is tested before it is done, and what is done about a frame, an end and trouble
+
+  pub checked-one : (phase : Phase) (part : Part) → One part → One (checked desk now phase part)
+  checked-one phase part one = either (are_allowed desk.config.read now desk.journal part.deeds) part (only (close desk now phase)) one (close-one phase)
+
+  pub first_part-one : (sessions : Sessions) (sid : ℕ) (m : Message) → One (first_part desk sessions now sid m)
+  first_part-one sessions sid m =
+      let phase = sessions.phase sid in
+      either (is_dead desk (own_number phase) || is_detached sessions sid (key_under_way phase)) (only (close desk now phase)) (checked desk now phase (part_in desk sessions now sid m phase))
+      (close-one phase) (checked-one phase (part_in desk sessions now sid m phase) (part_in-one sessions sid m phase))
+
+  pub trouble-one : (phase : Phase) → One (only (trouble desk now phase))
+  trouble-one phase = record { is = (close-one phase).is }

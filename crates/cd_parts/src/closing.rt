@@ -70,10 +70,10 @@ fn waits_or_default(waits: Option<Waits>) -> Waits
 
 /// The waits for the partner of a Process.
 fn waits_for<T: Texts>(desk: &Desk<T>, number: ProcNo) -> Waits
-    ensures { seen_waits result ≡ waits_for (desk_of T.read desk.now.config desk.now.book.entries) (submission desk.now.book.entries number) }
+    ensures { seen_waits result ≡ waits_for (desk_of T.read desk.now.config.now desk.now.book.now.entries) (submission desk.now.book.now.entries number) }
 {
     match desk.book.submission(number) {
-        Some(submission) => waits_or_default(waits_of(&desk.config, &submission.card.snode)),
+        Some(submission) => waits_or_default(waits_of(desk.config, &submission.card.snode)),
         None => default_waits(),
     }
 }
@@ -121,7 +121,7 @@ pub fn retried(waits: &Waits, now: Moment, before: &Placing) -> Placing
 
 /// What is recorded of a Process whose session is lost.
 fn retry<T: Texts>(desk: &Desk<T>, now: Moment, number: ProcNo) -> Option<Entry>
-    ensures { kept result ≡ retry_own (desk_of T.read desk.now.config desk.now.book.entries) now (Some number) }
+    ensures { kept result ≡ retry_own (desk_of T.read desk.now.config.now desk.now.book.now.entries) now (Some number) }
 {
     match desk.book.placing(number) {
         None => None,
@@ -138,7 +138,7 @@ fn retry<T: Texts>(desk: &Desk<T>, now: Moment, number: ProcNo) -> Option<Entry>
 
 /// What is recorded where a session ends.
 fn retry_own<T: Texts>(desk: &Desk<T>, now: Moment, phase: &Phase) -> Option<Entry>
-    ensures { kept result ≡ retry_own (desk_of T.read desk.now.config desk.now.book.entries) now (own_number phase.now) }
+    ensures { kept result ≡ retry_own (desk_of T.read desk.now.config.now desk.now.book.now.entries) now (own_number phase.now) }
 {
     match own_number(phase) {
         None => None,
@@ -166,7 +166,7 @@ pub fn close<'a, T: Texts>(
     now: Moment,
     phase: &Phase,
 ) -> Result<Part<'a>, NoMemory>
-    ensures { IfOk result (λ part. seen_part part ≡ only (close (desk_of T.read desk.now.config desk.now.book.entries) now phase.now)) }
+    ensures { IfOk result (λ part. seen_part part ≡ only (close (desk_of T.read desk.now.config.now desk.now.book.now.entries) now phase.now)) }
 {
     let entry = retry_own(desk, now, phase);
     let rest = only_one(alloc, quietly(alloc, Phase::Gone))?;
@@ -199,7 +199,7 @@ pub fn trouble<'a, T: Texts>(
     now: Moment,
     phase: &Phase,
 ) -> Result<Part<'a>, NoMemory>
-    ensures { IfOk result (λ part. seen_part part ≡ only (trouble (desk_of T.read desk.now.config desk.now.book.entries) now phase.now)) }
+    ensures { IfOk result (λ part. seen_part part ≡ only (trouble (desk_of T.read desk.now.config.now desk.now.book.now.entries) now phase.now)) }
 {
     let told = trouble_for(alloc, phase)?;
     let rest = close(alloc, desk, now, phase)?;

@@ -3,9 +3,9 @@
 use crate::config::Config;
 use cd_book::{Book, Texts};
 
-/// A node's book and its configuration.
-#[derive(Drop)]
-pub struct Desk<T: Texts> {
-    pub book: Book<T>,
-    pub config: Config,
+/// A node's book and its configuration, lent to the rules while a part of a row is computed.
+#[derive(Clone, Copy)]
+pub struct Desk<'a, T: Texts> {
+    pub book: &'a Book<T>,
+    pub config: &'a Config,
 }

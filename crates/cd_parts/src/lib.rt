@@ -32,5 +32,5 @@ pub use sending::{
     GREATEST_FILE, copy, ended, finish, interval_of, piece_len, piece_read, push, send_from,
     settled,
 };
-pub use sessions::{Holder, Session, Sessions};
+pub use sessions::Sessions;
 pub use steps::{given_up, receive, undone};

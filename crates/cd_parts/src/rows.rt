@@ -30,7 +30,7 @@ pub fn ready_from<'a, T: Texts>(
     source: &Source,
     offset: u64,
 ) -> Result<Part<'a>, NoMemory>
-    ensures { IfOk result (λ part. seen_part part ≡ ready_from (desk_of T.read desk.now.config desk.now.book.entries) now phase.now role talk.now key.now (Some source.now) offset) }
+    ensures { IfOk result (λ part. seen_part part ≡ ready_from (desk_of T.read desk.now.config.now desk.now.book.now.entries) now phase.now role talk.now key.now (Some source.now) offset) }
 {
     if offset <= source.length {
         let part = send_from(alloc, role, talk, key, source, offset)?;
@@ -53,7 +53,7 @@ pub fn ready_with<'a, T: Texts>(
     source: &Option<Source>,
     offset: u64,
 ) -> Result<Part<'a>, NoMemory>
-    ensures { IfOk result (λ part. seen_part part ≡ ready_from (desk_of T.read desk.now.config desk.now.book.entries) now phase.now role talk.now key.now source.now offset) }
+    ensures { IfOk result (λ part. seen_part part ≡ ready_from (desk_of T.read desk.now.config.now desk.now.book.now.entries) now phase.now role talk.now key.now source.now offset) }
 {
     match source {
         None => {
@@ -80,7 +80,7 @@ pub fn row_send<'a, T: Texts>(
     awaited: u64,
     frame: &Frame<'_>,
 ) -> Result<Part<'a>, NoMemory>
-    ensures { IfOk result (λ part. seen_part part ≡ row_send (desk_of T.read desk.now.config desk.now.book.entries) now phase.now role talk.now key.now source.now awaited (message_of frame.now)) }
+    ensures { IfOk result (λ part. seen_part part ≡ row_send (desk_of T.read desk.now.config.now desk.now.book.now.entries) now phase.now role talk.now key.now source.now awaited (message_of frame.now)) }
 {
     match frame {
         Frame::Ack(step, offset) => {
@@ -112,7 +112,7 @@ fn row_take_of<'a, T: Texts>(
     frame: &Frame<'a>,
 ) -> Result<Part<'a>, NoMemory>
     requires { receiving.now.base + receiving.now.length ≤ u64.MAX }
-    ensures { IfOk result (λ part. seen_part part ≡ row_take_of (desk_of T.read desk.now.config desk.now.book.entries) now phase.now role talk.now receiving.now came (message_of frame.now)) }
+    ensures { IfOk result (λ part. seen_part part ≡ row_take_of (desk_of T.read desk.now.config.now desk.now.book.now.entries) now phase.now role talk.now receiving.now came (message_of frame.now)) }
 {
     match frame {
         Frame::Data(step, offset, bytes) => {
@@ -166,8 +166,8 @@ pub fn row_take<'a, T: Texts>(
     came: u64,
     frame: &Frame<'a>,
 ) -> Result<Part<'a>, NoMemory>
-    requires { is_legal T.read desk.now.book.entries ≡ true }
-    ensures { IfOk result (λ part. seen_part part ≡ row_take (desk_of T.read desk.now.config desk.now.book.entries) now phase.now role talk.now came (message_of frame.now) (status desk.now.book.entries key.now)) }
+    requires { is_legal T.read desk.now.book.now.entries ≡ true }
+    ensures { IfOk result (λ part. seen_part part ≡ row_take (desk_of T.read desk.now.config.now desk.now.book.now.entries) now phase.now role talk.now came (message_of frame.now) (status desk.now.book.now.entries key.now)) }
 {
     match desk.book.status(key) {
         Status::Open(receiving, _) => {

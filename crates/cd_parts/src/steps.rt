@@ -29,7 +29,7 @@ pub fn undone<'a, T: Texts>(
     key: &Key,
     why: Cause,
 ) -> Result<Part<'a>, NoMemory>
-    ensures { IfOk result (λ part. seen_part part ≡ undone (desk_of T.read desk.now.config desk.now.book.entries) now phase.now role talk.now key.now why (status desk.now.book.entries key.now)) }
+    ensures { IfOk result (λ part. seen_part part ≡ undone (desk_of T.read desk.now.config.now desk.now.book.now.entries) now phase.now role talk.now key.now why (status desk.now.book.now.entries key.now)) }
 {
     match desk.book.status(key) {
         Status::Open(receiving, _) => {
@@ -61,7 +61,7 @@ pub fn given_up<'a, T: Texts>(
     key: &Key,
     why: Cause,
 ) -> Result<Part<'a>, NoMemory>
-    ensures { IfOk result (λ part. seen_part part ≡ given_up role talk.now key.now why now (status desk.now.book.entries key.now)) }
+    ensures { IfOk result (λ part. seen_part part ≡ given_up role talk.now key.now why now (status desk.now.book.now.entries key.now)) }
 {
     match desk.book.status(key) {
         Status::Open(_, _) => {
@@ -96,7 +96,7 @@ fn receive_again<'a, T: Texts>(
     announced: &Announced,
 ) -> Result<Part<'a>, NoMemory>
     requires { receiving.now.base + safe ≤ u64.MAX }
-    ensures { IfOk result (λ part. seen_part part ≡ receive_again (desk_of T.read desk.now.config desk.now.book.entries) now phase.now role talk.now receiving.now safe announced.now) }
+    ensures { IfOk result (λ part. seen_part part ≡ receive_again (desk_of T.read desk.now.config.now desk.now.book.now.entries) now phase.now role talk.now receiving.now safe announced.now) }
 {
     if !is_same_receiving(receiving, announced) {
         let part = close(alloc, desk, now, phase)?;
@@ -124,7 +124,7 @@ fn receive_first<'a, T: Texts>(
     key: &Key,
     announced: &Announced,
 ) -> Result<Part<'a>, NoMemory>
-    ensures { IfOk result (λ part. seen_part part ≡ receive_first (desk_of T.read desk.now.config desk.now.book.entries) now role talk.now key.now announced.now) }
+    ensures { IfOk result (λ part. seen_part part ≡ receive_first (desk_of T.read desk.now.config.now desk.now.book.now.entries) now role talk.now key.now announced.now) }
 {
     if desk.book.is_in_use(key, announced.name.as_slice()) {
         let part = refuse(alloc, role, talk, key, Cause::InUse, now)?;
@@ -146,8 +146,8 @@ pub fn receive<'a, T: Texts>(
     key: &Key,
     announced: &Announced,
 ) -> Result<Part<'a>, NoMemory>
-    requires { is_legal T.read desk.now.book.entries ≡ true }
-    ensures { IfOk result (λ part. seen_part part ≡ receive (desk_of T.read desk.now.config desk.now.book.entries) now phase.now role talk.now key.now announced.now) }
+    requires { is_legal T.read desk.now.book.now.entries ≡ true }
+    ensures { IfOk result (λ part. seen_part part ≡ receive (desk_of T.read desk.now.config.now desk.now.book.now.entries) now phase.now role talk.now key.now announced.now) }
 {
     match desk.book.status(key) {
         Status::Open(receiving, safe) => {

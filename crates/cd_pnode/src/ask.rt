@@ -39,8 +39,8 @@ fn receive_announced<'a, T: Texts>(
     key: &Key,
     length: u64,
 ) -> Result<Part<'a>, NoMemory>
-    requires { is_legal T.read desk.now.book.entries ≡ true }
-    ensures { IfOk result (λ part. seen_part part ≡ receive_announced (desk_of T.read desk.now.config desk.now.book.entries) now phase.now talk.now key.now (announced_by (what_at T.read desk.now.book.entries key.now.number key.now.place) length)) }
+    requires { is_legal T.read desk.now.book.now.entries ≡ true }
+    ensures { IfOk result (λ part. seen_part part ≡ receive_announced (desk_of T.read desk.now.config.now desk.now.book.now.entries) now phase.now talk.now key.now (announced_by (what_at T.read desk.now.book.now.entries key.now.number key.now.place) length)) }
 {
     match desk.book.what_at(key.number, key.place as usize) {
         None => {
@@ -71,8 +71,8 @@ pub fn row_ask<'a, T: Texts>(
     key: &Key,
     frame: &Frame<'_>,
 ) -> Result<Part<'a>, NoMemory>
-    requires { is_legal T.read desk.now.book.entries ≡ true }
-    ensures { IfOk result (λ part. seen_part part ≡ row_ask (desk_of T.read desk.now.config desk.now.book.entries) now phase.now talk.now key.now (message_of frame.now)) }
+    requires { is_legal T.read desk.now.book.now.entries ≡ true }
+    ensures { IfOk result (λ part. seen_part part ≡ row_ask (desk_of T.read desk.now.config.now desk.now.book.now.entries) now phase.now talk.now key.now (message_of frame.now)) }
 {
     match frame {
         Frame::Length(step, length) => {

@@ -23,7 +23,7 @@ pub fn row_await<'a, T: Texts>(
     source: &Option<Source>,
     frame: &Frame<'_>,
 ) -> Result<Part<'a>, NoMemory>
-    ensures { IfOk result (λ part. seen_part part ≡ row_await (desk_of T.read desk.now.config desk.now.book.entries) now phase.now talk.now key.now source.now (message_of frame.now)) }
+    ensures { IfOk result (λ part. seen_part part ≡ row_await (desk_of T.read desk.now.config.now desk.now.book.now.entries) now phase.now talk.now key.now source.now (message_of frame.now)) }
 {
     match frame {
         Frame::Ready(step, offset) => {

@@ -46,7 +46,7 @@ fn connect<'a, T: Texts>(
     waits: &Waits,
     connected: bool,
 ) -> Result<Part<'a>, NoMemory>
-    ensures { IfOk result (λ part. seen_part part ≡ only (connect (desk_of T.read desk.now.config desk.now.book.entries) now chosen.now (seen_waits waits.now) connected)) }
+    ensures { IfOk result (λ part. seen_part part ≡ only (connect (desk_of T.read desk.now.config.now desk.now.book.now.entries) now chosen.now (seen_waits waits.now) connected)) }
 {
     if connected {
         let frames = hello(alloc, desk.book.own_home(), desk.config.block)?;
@@ -68,9 +68,9 @@ fn call<'a, T: Texts>(
     connected: bool,
     chosen: &Row,
 ) -> Result<Part<'a>, NoMemory>
-    ensures { IfOk result (λ part. seen_part part ≡ only (call (desk_of T.read desk.now.config desk.now.book.entries) now connected chosen.now ((desk_of T.read desk.now.config desk.now.book.entries).config.partner chosen.now.snode))) }
+    ensures { IfOk result (λ part. seen_part part ≡ only (call (desk_of T.read desk.now.config.now desk.now.book.now.entries) now connected chosen.now ((desk_of T.read desk.now.config.now desk.now.book.now.entries).config.partner chosen.now.snode))) }
 {
-    match waits_of(&desk.config, &chosen.snode) {
+    match waits_of(desk.config, &chosen.snode) {
         None => {
             let entry = place_in(
                 chosen.number,
@@ -97,7 +97,7 @@ pub fn row_chosen<'a, T: Texts>(
     connected: bool,
     chosen: &Option<Row>,
 ) -> Result<Part<'a>, NoMemory>
-    ensures { IfOk result (λ part. seen_part part ≡ only (row_chosen (desk_of T.read desk.now.config desk.now.book.entries) now connected chosen.now)) }
+    ensures { IfOk result (λ part. seen_part part ≡ only (row_chosen (desk_of T.read desk.now.config.now desk.now.book.now.entries) now connected chosen.now)) }
 {
     match chosen {
         None => Ok(only(Vec::new(alloc))),

@@ -56,7 +56,7 @@ fn own_talk(name: &NodeName, home: u64, number: ProcNo, block: u32, welcome: &We
 
 /// What is recorded where the partner isn't the one that was called, or doesn't take the session.
 fn held<T: Texts>(desk: &Desk<T>, now: Moment, number: ProcNo) -> Option<Entry>
-    ensures { kept result ≡ held (desk_of T.read desk.now.config desk.now.book.entries) now number (placing desk.now.book.entries number) }
+    ensures { kept result ≡ held (desk_of T.read desk.now.config.now desk.now.book.now.entries) now number (placing desk.now.book.now.entries number) }
 {
     match desk.book.placing(number) {
         None => None,
@@ -76,7 +76,7 @@ fn rejected<'a, T: Texts>(
     now: Moment,
     number: ProcNo,
 ) -> Result<Part<'a>, NoMemory>
-    ensures { IfOk result (λ part. seen_part part ≡ rejected (desk_of T.read desk.now.config desk.now.book.entries) now number) }
+    ensures { IfOk result (λ part. seen_part part ≡ rejected (desk_of T.read desk.now.config.now desk.now.book.now.entries) now number) }
 {
     let entry = held(desk, now, number);
     let rest = only_one(alloc, quietly(alloc, Phase::Gone))?;
@@ -86,7 +86,7 @@ fn rejected<'a, T: Texts>(
 
 /// Whether it is the partner that was called.
 fn is_called<T: Texts>(desk: &Desk<T>, number: ProcNo, name: &NodeName) -> bool
-    ensures { result ≡ is_called (submission desk.now.book.entries number) name.now }
+    ensures { result ≡ is_called (submission desk.now.book.now.entries number) name.now }
 {
     match desk.book.submission(number) {
         None => false,
@@ -117,7 +117,7 @@ fn run<'a, T: Texts>(
     number: ProcNo,
     welcome: &Welcome,
 ) -> Result<Part<'a>, NoMemory>
-    ensures { IfOk result (λ part. seen_part part ≡ run (desk_of T.read desk.now.config desk.now.book.entries) now number welcome.now (placing desk.now.book.entries number) (own_home desk.now.book.entries)) }
+    ensures { IfOk result (λ part. seen_part part ≡ run (desk_of T.read desk.now.config.now desk.now.book.now.entries) now number welcome.now (placing desk.now.book.now.entries number) (own_home desk.now.book.now.entries)) }
 {
     let phase = Phase::Greet(number);
     match desk.book.placing(number) {
@@ -152,7 +152,7 @@ pub fn row_greet<'a, T: Texts>(
     number: ProcNo,
     frame: &Frame<'_>,
 ) -> Result<Part<'a>, NoMemory>
-    ensures { IfOk result (λ part. seen_part part ≡ row_greet (desk_of T.read desk.now.config desk.now.book.entries) now number (message_of frame.now)) }
+    ensures { IfOk result (λ part. seen_part part ≡ row_greet (desk_of T.read desk.now.config.now desk.now.book.now.entries) now number (message_of frame.now)) }
 {
     match frame {
         Frame::Welcome(welcome) => {

@@ -42,7 +42,7 @@ fn begin<'a, T: Texts>(
     talk: &Talk,
     key: &Key,
 ) -> Result<Part<'a>, NoMemory>
-    ensures { IfOk result (λ part. seen_part part ≡ begin (desk_of T.read desk.now.config desk.now.book.entries) now phase.now talk.now key.now (what_at T.read desk.now.book.entries key.now.number key.now.place)) }
+    ensures { IfOk result (λ part. seen_part part ≡ begin (desk_of T.read desk.now.config.now desk.now.book.now.entries) now phase.now talk.now key.now (what_at T.read desk.now.book.now.entries key.now.number key.now.place)) }
 {
     match desk.book.what_at(key.number, key.place as usize) {
         None => {
@@ -71,7 +71,7 @@ pub fn next<'a, T: Texts>(
     talk: &Talk,
     number: ProcNo,
 ) -> Result<Part<'a>, NoMemory>
-    ensures { IfOk result (λ part. seen_part part ≡ next (desk_of T.read desk.now.config desk.now.book.entries) now phase.now talk.now number) }
+    ensures { IfOk result (λ part. seen_part part ≡ next (desk_of T.read desk.now.config.now desk.now.book.now.entries) now phase.now talk.now number) }
 {
     match key_at(number, desk.book.next_place(number), desk.book.own_home()) {
         None => {
@@ -101,7 +101,7 @@ pub fn source_known<'a, T: Texts>(
     key: &Key,
     size: Option<u64>,
 ) -> Result<Part<'a>, NoMemory>
-    ensures { IfOk result (λ part. seen_part part ≡ source_known (desk_of T.read desk.now.config desk.now.book.entries) now phase.now talk.now key.now size) }
+    ensures { IfOk result (λ part. seen_part part ≡ source_known (desk_of T.read desk.now.config.now desk.now.book.now.entries) now phase.now talk.now key.now size) }
 {
     match desk.book.what_at(key.number, key.place as usize) {
         None => {

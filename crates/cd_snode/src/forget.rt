@@ -20,7 +20,7 @@ pub(crate) fn forget<'a, T: Texts>(
     last: &Option<Key>,
     number: ProcNo,
 ) -> Result<Part<'a>, NoMemory>
-    ensures { IfOk result (λ part. seen_part part ≡ forget (desk_of T.read desk.now.config desk.now.book.entries) talk.now last.now number) }
+    ensures { IfOk result (λ part. seen_part part ≡ forget (desk_of T.read desk.now.config.now desk.now.book.now.entries) talk.now last.now number) }
 {
     let phase = Phase::Ready(with_number(number, talk), *last);
     let rest = only_one(alloc, quietly(alloc, phase))?;

@@ -56,7 +56,7 @@ pub fn row_fresh<'a, T: Texts>(
     now: Moment,
     frame: &Frame<'_>,
 ) -> Result<Part<'a>, NoMemory>
-    ensures { IfOk result (λ part. seen_part part ≡ row_fresh (desk_of T.read desk.now.config desk.now.book.entries) now (message_of frame.now)) }
+    ensures { IfOk result (λ part. seen_part part ≡ row_fresh (desk_of T.read desk.now.config.now desk.now.book.now.entries) now (message_of frame.now)) }
 {
     match frame {
         Frame::Hello(hello) => {

@@ -8,7 +8,6 @@ ghost use Rattle.cd_legal.specs.Legal.{is_legal};
 ghost use Rattle.cd_moves.specs.Rows.{offered, row_offer};
 ghost use Rattle.cd_moves.specs.Seen.{seen_part};
 ghost use Rattle.cd_parts.specs.Desk.{desk_of};
-ghost use Rattle.cd_parts.specs.Sessions.{sessions_of};
 
 use crate::ready::row_ready;
 use cd_book::Texts;
@@ -66,10 +65,10 @@ pub fn offered<'a>(
 }
 
 /// Where a length was sent, Ready begins the sending; all else is as where a step is awaited. The journal is legal.
-pub fn row_offer<'a, T: Texts>(
+pub fn row_offer<'a, T: Texts, S: Sessions>(
     alloc: Global,
     desk: &Desk<T>,
-    sessions: &Sessions,
+    sessions: &S,
     now: Moment,
     sid: u64,
     phase: &Phase,
@@ -78,8 +77,8 @@ pub fn row_offer<'a, T: Texts>(
     source: &Source,
     frame: &Frame<'_>,
 ) -> Result<Part<'a>, NoMemory>
-    requires { is_legal T.read desk.now.book.entries ≡ true }
-    ensures { IfOk result (λ part. seen_part part ≡ row_offer (desk_of T.read desk.now.config desk.now.book.entries) (sessions_of sessions.now) now sid phase.now talk.now key.now source.now (message_of frame.now)) }
+    requires { is_legal T.read desk.now.book.now.entries ≡ true }
+    ensures { IfOk result (λ part. seen_part part ≡ row_offer (desk_of T.read desk.now.config.now desk.now.book.now.entries) (S.seen sessions.now) now sid phase.now talk.now key.now source.now (message_of frame.now)) }
 {
     match frame {
         Frame::Ready(step, offset) => {

@@ -6,7 +6,6 @@ ghost use Rattle.cd_legal.specs.Legal.{is_legal};
 ghost use Rattle.cd_moves.specs.Rows.{is_in_place, row_ready};
 ghost use Rattle.cd_moves.specs.Seen.{seen_part};
 ghost use Rattle.cd_parts.specs.Desk.{desk_of};
-ghost use Rattle.cd_parts.specs.Sessions.{sessions_of};
 
 use crate::forget::forget;
 use crate::take_step::take_step;
@@ -26,10 +25,10 @@ fn is_in_place(why: Cause) -> bool
 }
 
 /// The partner sends a file. The journal is legal.
-fn copy_to<'a, T: Texts>(
+fn copy_to<'a, T: Texts, S: Sessions>(
     alloc: Global,
     desk: &Desk<T>,
-    sessions: &Sessions,
+    sessions: &S,
     now: Moment,
     sid: u64,
     phase: &Phase,
@@ -38,8 +37,8 @@ fn copy_to<'a, T: Texts>(
     key: &Key,
     announced: &Announced,
 ) -> Result<Part<'a>, NoMemory>
-    requires { is_legal T.read desk.now.book.entries ≡ true }
-    ensures { IfOk result (λ part. seen_part part ≡ row_ready (desk_of T.read desk.now.config desk.now.book.entries) (sessions_of sessions.now) now sid phase.now talk.now last.now (message.StepCopyTo key.now announced.now.name announced.now.disp announced.now.interval announced.now.length)) }
+    requires { is_legal T.read desk.now.book.now.entries ≡ true }
+    ensures { IfOk result (λ part. seen_part part ≡ row_ready (desk_of T.read desk.now.config.now desk.now.book.now.entries) (S.seen sessions.now) now sid phase.now talk.now last.now (message.StepCopyTo key.now announced.now.name announced.now.disp announced.now.interval announced.now.length)) }
 {
     let own = with_number(key.number, talk);
     let ready = Phase::Ready(own, Some(*key));
@@ -49,10 +48,10 @@ fn copy_to<'a, T: Texts>(
 }
 
 /// The partner asks for a file.
-fn copy_from<'a, T: Texts>(
+fn copy_from<'a, T: Texts, S: Sessions>(
     alloc: Global,
     desk: &Desk<T>,
-    sessions: &Sessions,
+    sessions: &S,
     now: Moment,
     sid: u64,
     phase: &Phase,
@@ -62,7 +61,7 @@ fn copy_from<'a, T: Texts>(
     name: &[u8],
     interval: u64,
 ) -> Result<Part<'a>, NoMemory>
-    ensures { IfOk result (λ part. seen_part part ≡ row_ready (desk_of T.read desk.now.config desk.now.book.entries) (sessions_of sessions.now) now sid phase.now talk.now last.now (message.StepCopyFrom key.now name.now interval)) }
+    ensures { IfOk result (λ part. seen_part part ≡ row_ready (desk_of T.read desk.now.config.now desk.now.book.now.entries) (S.seen sessions.now) now sid phase.now talk.now last.now (message.StepCopyFrom key.now name.now interval)) }
 {
     let name = Bytes::copy_of(alloc, name)?;
     let own = with_number(key.number, talk);
@@ -72,10 +71,10 @@ fn copy_from<'a, T: Texts>(
 }
 
 /// The partner gives up a push in the place of its step.
-fn abort<'a, T: Texts>(
+fn abort<'a, T: Texts, S: Sessions>(
     alloc: Global,
     desk: &Desk<T>,
-    sessions: &Sessions,
+    sessions: &S,
     now: Moment,
     sid: u64,
     phase: &Phase,
@@ -84,7 +83,7 @@ fn abort<'a, T: Texts>(
     key: &Key,
     why: Cause,
 ) -> Result<Part<'a>, NoMemory>
-    ensures { IfOk result (λ part. seen_part part ≡ row_ready (desk_of T.read desk.now.config desk.now.book.entries) (sessions_of sessions.now) now sid phase.now talk.now last.now (message.Abort key.now why)) }
+    ensures { IfOk result (λ part. seen_part part ≡ row_ready (desk_of T.read desk.now.config.now desk.now.book.now.entries) (S.seen sessions.now) now sid phase.now talk.now last.now (message.Abort key.now why)) }
 {
     if is_in_place(why) {
         let own = with_number(key.number, talk);
@@ -98,10 +97,10 @@ fn abort<'a, T: Texts>(
 }
 
 /// The partner's Process is over: it is forgotten, where nothing is being received for it.
-fn forget_it<'a, T: Texts>(
+fn forget_it<'a, T: Texts, S: Sessions>(
     alloc: Global,
     desk: &Desk<T>,
-    sessions: &Sessions,
+    sessions: &S,
     now: Moment,
     sid: u64,
     phase: &Phase,
@@ -110,7 +109,7 @@ fn forget_it<'a, T: Texts>(
     home: u64,
     number: ProcNo,
 ) -> Result<Part<'a>, NoMemory>
-    ensures { IfOk result (λ part. seen_part part ≡ row_ready (desk_of T.read desk.now.config desk.now.book.entries) (sessions_of sessions.now) now sid phase.now talk.now last.now (message.Forget home number)) }
+    ensures { IfOk result (λ part. seen_part part ≡ row_ready (desk_of T.read desk.now.config.now desk.now.book.now.entries) (S.seen sessions.now) now sid phase.now talk.now last.now (message.Forget home number)) }
 {
     if home == talk.home
         && is_number_of(talk.number, number)
@@ -125,10 +124,10 @@ fn forget_it<'a, T: Texts>(
 }
 
 /// A frame comes where the next step is awaited. The journal is legal.
-pub fn row_ready<'a, T: Texts>(
+pub fn row_ready<'a, T: Texts, S: Sessions>(
     alloc: Global,
     desk: &Desk<T>,
-    sessions: &Sessions,
+    sessions: &S,
     now: Moment,
     sid: u64,
     phase: &Phase,
@@ -136,8 +135,8 @@ pub fn row_ready<'a, T: Texts>(
     last: &Option<Key>,
     frame: &Frame<'_>,
 ) -> Result<Part<'a>, NoMemory>
-    requires { is_legal T.read desk.now.book.entries ≡ true }
-    ensures { IfOk result (λ part. seen_part part ≡ row_ready (desk_of T.read desk.now.config desk.now.book.entries) (sessions_of sessions.now) now sid phase.now talk.now last.now (message_of frame.now)) }
+    requires { is_legal T.read desk.now.book.now.entries ≡ true }
+    ensures { IfOk result (λ part. seen_part part ≡ row_ready (desk_of T.read desk.now.config.now desk.now.book.now.entries) (S.seen sessions.now) now sid phase.now talk.now last.now (message_of frame.now)) }
 {
     match frame {
         Frame::StepCopyTo(key, name, disp, interval, length) => {

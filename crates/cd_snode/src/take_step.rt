@@ -3,7 +3,6 @@ ghost use Rattle.std.specs.Prelude.{◌≡◌, true, IfOk};
 ghost use Rattle.cd_moves.specs.Rows.{answered, unless_done, take_step};
 ghost use Rattle.cd_moves.specs.Seen.{seen_part};
 ghost use Rattle.cd_parts.specs.Desk.{desk_of};
-ghost use Rattle.cd_parts.specs.Sessions.{sessions_of};
 ghost use Rattle.cd_parts.specs.Single.{keeps_one};
 ghost use Rattle.cd_status.specs.Status.{outcome};
 
@@ -40,7 +39,7 @@ fn unless_done<'a, T: Texts>(
     part: Part<'a>,
 ) -> Result<Part<'a>, NoMemory>
     requires { keeps_one (seen_part part).deeds ≡ true }
-    ensures { IfOk result (λ made. seen_part made ≡ unless_done (desk_of T.read desk.now.config desk.now.book.entries) now talk.now key.now (outcome desk.now.book.entries key.now) (seen_part part.entry)) }
+    ensures { IfOk result (λ made. seen_part made ≡ unless_done (desk_of T.read desk.now.config.now desk.now.book.now.entries) now talk.now key.now (outcome desk.now.book.now.entries key.now) (seen_part part.entry)) }
 {
     match desk.book.outcome(key) {
         None => {
@@ -57,10 +56,10 @@ fn unless_done<'a, T: Texts>(
 
 /// A step is taken where its key is of the session and isn't forgotten, and no newer session holds the key; `part` is
 /// its row.
-pub(crate) fn take_step<'a, T: Texts>(
+pub(crate) fn take_step<'a, T: Texts, S: Sessions>(
     alloc: Global,
     desk: &Desk<T>,
-    sessions: &Sessions,
+    sessions: &S,
     now: Moment,
     sid: u64,
     phase: &Phase,
@@ -69,7 +68,7 @@ pub(crate) fn take_step<'a, T: Texts>(
     part: Part<'a>,
 ) -> Result<Part<'a>, NoMemory>
     requires { keeps_one (seen_part part).deeds ≡ true }
-    ensures { IfOk result (λ made. seen_part made ≡ take_step (desk_of T.read desk.now.config desk.now.book.entries) (sessions_of sessions.now) now sid phase.now talk.now key.now (seen_part part.entry)) }
+    ensures { IfOk result (λ made. seen_part made ≡ take_step (desk_of T.read desk.now.config.now desk.now.book.now.entries) (S.seen sessions.now) now sid phase.now talk.now key.now (seen_part part.entry)) }
 {
     if is_of_talk(talk, key) && !desk.book.is_over(key) && !sessions.is_newer(sid, key) {
         let talk = with_number(key.number, talk);

@@ -5,10 +5,10 @@ use Rattle.cd_checked.proofs.checking.are_allowed.Goals as goal
 
 pub returns-then-entry : goal.returns-then-entry
 returns-then-entry g c =
-    let law = allowed_by g.T.Texts.read c.args.now c.args.desk.now.book.entries c.args.deeds.now c.requires in
+    let law = allowed_by g.T.Texts.read c.args.now c.args.desk.now.book.now.entries c.args.deeds.now c.requires in
     c.are_sent-frames.ensures ∙ ap (λ (b : Bool). b && are_sent c.args.deeds.now) c.if-entry.ensures ∙ sym law
 
 pub returns-else-entry : goal.returns-else-entry
 returns-else-entry g c =
-    let law = allowed_by g.T.Texts.read c.args.now c.args.desk.now.book.entries c.args.deeds.now c.requires in
+    let law = allowed_by g.T.Texts.read c.args.now c.args.desk.now.book.now.entries c.args.deeds.now c.requires in
     c.if-entry.false ∙ ap (λ (b : Bool). b && are_sent c.args.deeds.now) c.if-entry.ensures ∙ sym law

@@ -6,7 +6,7 @@ use Rattle.cd_deeds.specs.declared.fault.Fault.{Fault}
 use Rattle.cd_deeds.specs.declared.fault.Fault.TheVariants as fault
 use Rattle.cd_node.specs.Question.{desk_with, answers_of, seen_question, part_at, question_of, IsAnswered, Question}
 use Rattle.cd_node.proofs.Crash.{nothing_moves, part_made, made_moments}
-use Rattle.cd_node.proofs.Parts.{made_fits, done_legal, done_on_time}
+use Rattle.cd_node.proofs.Parts.{made_fits, done_legal, done_on_time, cut_legal, cut_on_time}
 use Rattle.cd_outside.specs.Files.{FilesState}
 use Rattle.cd_node.proofs.Way.{nothing_done, behind_stopped}
 use Rattle.cd_node.proofs.behind.go_behind.Goals as goal
@@ -98,3 +98,23 @@ returns-in-Err-perform-clause-crash g c = λ told files_told node is. inr (
       ((nothing_done g.F.Files.told g.L.Lines.told c.args.sid.number c.args.registry.now.entries (g.F.Files.state c.args.files.now).shelf (g.F.Files.state c.ask.new.files).shelf c.args.phase.now c.args.holders.now (g.L.Lines.traffic c.args.lines.now)
       (λ t. ap (λ (s : FilesState). s.shelf) (c.ask.ensures.same t))).node node is))),
 )
+
+pub returns-in-Err-perform-clause-legal : goal.returns-in-Err-perform-clause-legal
+returns-in-Err-perform-clause-legal g c =
+    cut_legal (g.R.Rules.setting c.args.rules.now) g.T.Texts.read c.requires.priorities c.args.now g.F.Files.told g.L.Lines.told c.args.sid.number (map seen_deed c.in-Ok-part_behind.part.deeds.items) c.in-Err-perform.fault
+    (spot c.args.registry.now.entries (g.F.Files.state c.ask.new.files).shelf c.args.phase.now c.args.holders.now (g.L.Lines.traffic c.args.lines.now))
+    (spot c.perform.new.registry.entries (g.F.Files.state c.perform.new.files).shelf c.perform.new.phase c.perform.new.holders (g.L.Lines.traffic c.perform.new.lines))
+    c.requires.legal
+    (made_fits (g.R.Rules.setting c.args.rules.now) g.T.Texts.read c.requires.priorities c.args.now c.args.registry.now.entries c.book-2.result.now.entries c.args.phase.now
+    (answers_of c.args.now c.ask.new.given c.as_slice.result.now) c.args.then.now (seen_part c.in-Ok-part_behind.part) c.book-2.ensures c.in-Ok-part_behind.ensures.part c.requires.legal c.requires.on_time refl)
+    c.in-Err-perform.ensures.cut
+
+pub returns-in-Err-perform-clause-on_time : goal.returns-in-Err-perform-clause-on_time
+returns-in-Err-perform-clause-on_time g c =
+    cut_on_time (g.R.Rules.setting c.args.rules.now) g.T.Texts.read c.requires.priorities c.args.now g.F.Files.told g.L.Lines.told c.args.sid.number (map seen_deed c.in-Ok-part_behind.part.deeds.items) c.in-Err-perform.fault
+    (spot c.args.registry.now.entries (g.F.Files.state c.ask.new.files).shelf c.args.phase.now c.args.holders.now (g.L.Lines.traffic c.args.lines.now))
+    (spot c.perform.new.registry.entries (g.F.Files.state c.perform.new.files).shelf c.perform.new.phase c.perform.new.holders (g.L.Lines.traffic c.perform.new.lines))
+    c.requires.on_time
+    (made_fits (g.R.Rules.setting c.args.rules.now) g.T.Texts.read c.requires.priorities c.args.now c.args.registry.now.entries c.book-2.result.now.entries c.args.phase.now
+    (answers_of c.args.now c.ask.new.given c.as_slice.result.now) c.args.then.now (seen_part c.in-Ok-part_behind.part) c.book-2.ensures c.in-Ok-part_behind.ensures.part c.requires.legal c.requires.on_time refl)
+    c.in-Err-perform.ensures.cut

@@ -8,7 +8,7 @@ use Rattle.cd_node.specs.Question.{answers_of}
 use Rattle.cd_moves.specs.Node.{does}
 use Rattle.cd_deeds.specs.Joint.{JointAt}
 use Rattle.cd_node.proofs.Crash.{parts_first, parts_then}
-use Rattle.cd_node.proofs.Parts.{done_legal, done_on_time}
+use Rattle.cd_node.proofs.Parts.{done_legal, done_on_time, cut_legal, cut_on_time}
 use Rattle.cd_node.proofs.Way.{so_behind, parts_done, parts_told, parts_cut, parts_stopped}
 use Rattle.cd_node.proofs.row.go_all.Goals as goal
 
@@ -88,3 +88,17 @@ returns-in-Err-go_on-clause-crash g c = λ told files_told node is.
           (JointAt (g.D.Disk.state c.args.disk.now) (g.F.Files.state c.args.files.now)) (JointAt (g.D.Disk.state c.perform.new.disk) (g.F.Files.state c.perform.new.files)) (JointAt (g.D.Disk.state c.go_on.new.disk) (g.F.Files.state c.go_on.new.files)) c.args.beat.now c.perform.new.beat c.perform.ensures.beat (c.perform.ensures.moments told files_told node is.stands)
           left.moments;
     }
+
+pub returns-in-Err-clause-legal : goal.returns-in-Err-clause-legal
+returns-in-Err-clause-legal g c =
+    cut_legal (g.R.Rules.setting c.args.rules.now) g.T.Texts.read c.requires.priorities c.args.now g.F.Files.told g.L.Lines.told c.args.sid.number (map seen_deed c.args.part.deeds.items) c.in-Err.fault
+    (spot c.args.registry.now.entries (g.F.Files.state c.args.files.now).shelf c.args.phase.now c.args.holders.now (g.L.Lines.traffic c.args.lines.now))
+    (spot c.perform.new.registry.entries (g.F.Files.state c.perform.new.files).shelf c.perform.new.phase c.perform.new.holders (g.L.Lines.traffic c.perform.new.lines))
+    c.requires.legal c.requires.allowed c.in-Err.ensures.cut
+
+pub returns-in-Err-clause-on_time : goal.returns-in-Err-clause-on_time
+returns-in-Err-clause-on_time g c =
+    cut_on_time (g.R.Rules.setting c.args.rules.now) g.T.Texts.read c.requires.priorities c.args.now g.F.Files.told g.L.Lines.told c.args.sid.number (map seen_deed c.args.part.deeds.items) c.in-Err.fault
+    (spot c.args.registry.now.entries (g.F.Files.state c.args.files.now).shelf c.args.phase.now c.args.holders.now (g.L.Lines.traffic c.args.lines.now))
+    (spot c.perform.new.registry.entries (g.F.Files.state c.perform.new.files).shelf c.perform.new.phase c.perform.new.holders (g.L.Lines.traffic c.perform.new.lines))
+    c.requires.on_time c.requires.allowed c.in-Err.ensures.cut

@@ -9,6 +9,6 @@ use Rattle.cd_snode.proofs.ready.abort.Goals as goal
 
 pub take_step-requires : goal.take_step-requires
 take_step-requires g c =
-    let desk = desk_of g.T.Texts.read c.args.desk.now.config c.args.desk.now.book.entries in
+    let desk = desk_of g.T.Texts.read c.args.desk.now.config.now c.args.desk.now.book.now.entries in
     subst (λ (p : Part). keeps_one p.deeds ≡ true) (sym c.in_ok-row.ensures)
-    (given_up-one desk c.args.now side.Snode c.with_number-own.result c.args.key.now c.args.why (status c.args.desk.now.book.entries c.args.key.now)).is
+    (given_up-one desk c.args.now side.Snode c.with_number-own.result c.args.key.now c.args.why (status c.args.desk.now.book.now.entries c.args.key.now)).is

@@ -1,5 +1,0 @@
-use Rattle.std.proofs.Common.{length}
-use Rattle.cd_parts.proofs.sessions.+key_in.Given as goal
-
-abbrev pub decreases-key_in : goal.decreases-key_in
-decreases-key_in l = length l.phases.now

@@ -1,0 +1,44 @@
+-- What comes in a session.
+use Rattle.std.specs.Prelude.{◌≡◌, ◌⊎◌, ℕ, List, [], ◌∷◌, ◌++◌, Bool, true, false, not, Option, Some, None, is_some}
+use Rattle.cd_outside.specs.Counts.{Rose}
+use Rattle.cd_outside.specs.Lines.{Traffic, LineCounts}
+use Rattle.cd_entries.specs.declared.entry.Entry.{Entry}
+use Rattle.cd_frames.specs.Message.{Message}
+use Rattle.cd_frames.specs.Reading.{Reading, front}
+use Rattle.cd_frames.specs.Stream.{Front, gives, refuses, waits}
+use Rattle.cd_status.specs.Processes.{is_live}
+use Rattle.cd_moves.specs.Closing.{own_number}
+use Rattle.cd_moves.specs.declared.session.Phase.{Phase}
+use Rattle.cd_plain.specs.declared.arriving.Came.{Came}
+use Rattle.cd_plain.specs.declared.arriving.Came.TheVariants as came
+
+-- the frame that came, where one did
+abbrev pub came_frame : Came → Option Message → Option Message
+came_frame came.Frame given = given
+came_frame _ given = None
+
+-- the frames that were given, and the one that came
+abbrev pub and_one : List Message → Option Message → List Message
+and_one given (Some m) = given ++ m ∷ []
+and_one given None = given
+
+-- what stands at the front is no frame
+abbrev pub IsRefused : Front → Type 0
+IsRefused (refuses why) = Unit {0}
+IsRefused _ = ⊥
+
+-- the Process of a session isn't live any more
+abbrev pub is_over_for : List Entry → Option ℕ → Bool
+is_over_for entries None = false
+is_over_for entries (Some n) = not (is_live entries n)
+
+-- What came, and why: a whole frame stood at the front; or what is none; or the session gave no byte more, or failed.
+abbrev pub CameSo : Came → Reading → ℕ → LineCounts → LineCounts → Type 0
+CameSo came.Frame reader sid before now = is_some reader.given ≡ true
+CameSo came.Bad reader sid before now = IsRefused (front reader)
+CameSo came.End reader sid before now = Rose (before.ends sid) (now.ends sid) ⊎ Rose (before.faults sid) (now.faults sid)
+
+-- bytes were taken, and nothing was given
+pub record Heard (before now : Traffic) : Type 0 where
+  pub given : now.given ≡ before.given
+  pub sends : now.sends ≡ before.sends

@@ -1,0 +1,4 @@
+pub mod Arriving
+pub mod Handling
+pub mod Setting
+pub mod Turn

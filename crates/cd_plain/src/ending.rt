@@ -1,0 +1,10 @@
+/// How what happened in a session was handled.
+#[derive(Clone, Copy, Debug, PartialEq, Eq)]
+pub(crate) enum Ending {
+    /// All that the rules say was done.
+    Went,
+    /// The session is lost.
+    Lost,
+    /// The files failed, and the partner was told of trouble.
+    Troubled,
+}

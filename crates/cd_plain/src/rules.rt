@@ -1,0 +1,127 @@
+//! The rules of a session, as a node's turn asks for them.
+ghost use Rattle.cd_plain.specs.Setting.{setting_of};
+
+use crate::at_hand::AtHand;
+use cd_ast::{CopyStep, What};
+use cd_book::{Book, Texts};
+use cd_cores::Answers;
+use cd_deeds::Holders;
+use cd_frames::Frame;
+use cd_moves::{Deed, Part, Phase, Then};
+use cd_node::{Given, Question, Rules, Session};
+use cd_outside::Sid;
+use cd_parts::{Config, Desk, piece_len};
+use cd_types::{Key, Moment, NoMemory};
+use std::alloc::Global;
+
+/// The rules of a node that is set up so, computed as they are defined.
+#[derive(Clone, Copy)]
+pub struct PlainRules<'a> {
+    pub config: &'a Config,
+}
+
+/// The source of a push, by its statement.
+fn source_of<'a, T: Texts>(book: &'a Book<T>, key: &Key) -> &'a [u8] {
+    match book.what_at(key.number, key.place as usize) {
+        Some(What::Copy(step)) => step.from.as_slice(),
+        _ => &[],
+    }
+}
+
+impl<T: Texts> Rules<T> for PlainRules<'_> {
+    ghost setting = { λ rules. setting_of rules.config.now };
+
+    fn first_part<'a>(
+        &self,
+        alloc: Global,
+        book: &Book<T>,
+        others: &[Session],
+        holders: &Holders,
+        now: Moment,
+        sid: Sid,
+        phase: &Phase,
+        frame: &Frame<'a>,
+    ) -> Result<Part<'a>, NoMemory> {
+        let desk = Desk {
+            book,
+            config: self.config,
+        };
+        let at_hand = AtHand {
+            sid,
+            phase,
+            others,
+            holders,
+        };
+        let part = cd_cores::first_part(alloc, &desk, &at_hand, now, sid.number, frame, phase)?;
+        Ok(part)
+    }
+
+    fn close<'a>(
+        &self,
+        alloc: Global,
+        book: &Book<T>,
+        now: Moment,
+        phase: &Phase,
+    ) -> Result<Vec<Deed<'a>>, NoMemory> {
+        let desk = Desk {
+            book,
+            config: self.config,
+        };
+        let part = cd_parts::close(alloc, &desk, now, phase)?;
+        Ok(part.deeds)
+    }
+
+    fn trouble<'a>(
+        &self,
+        alloc: Global,
+        book: &Book<T>,
+        now: Moment,
+        phase: &Phase,
+    ) -> Result<Vec<Deed<'a>>, NoMemory> {
+        let desk = Desk {
+            book,
+            config: self.config,
+        };
+        let part = cd_parts::trouble(alloc, &desk, now, phase)?;
+        Ok(part.deeds)
+    }
+
+    fn asked<'a>(&self, book: &'a Book<T>, then: &'a Then) -> Question<'a> {
+        match then {
+            Then::Done => Question::Nothing,
+            Then::Next(_, _) => Question::Nothing,
+            Then::Undo(_, _, _, _) => Question::Nothing,
+            Then::Push(_, key) => Question::Source(source_of(book, key)),
+            Then::Offered(_, _, name, _) => Question::Source(name.as_slice()),
+            Then::Onto(_, _, _, announced) => Question::Destination(announced.name.as_slice()),
+            Then::Piece(_, talk, _, source, offset) => Question::Bytes(
+                source.name.as_slice(),
+                *offset,
+                piece_len(talk, source, *offset) as u32,
+            ),
+        }
+    }
+
+    fn part_behind<'a>(
+        &self,
+        alloc: Global,
+        book: &Book<T>,
+        now: Moment,
+        phase: &Phase,
+        given: &Given,
+        bytes: &'a [u8],
+        then: &Then,
+    ) -> Result<Part<'a>, NoMemory> {
+        let desk = Desk {
+            book,
+            config: self.config,
+        };
+        let answers = Answers {
+            there: given.there,
+            source: given.source,
+            bytes,
+        };
+        let part = cd_cores::part_behind(alloc, &desk, now, phase, &answers, then)?;
+        Ok(part)
+    }
+}
