@@ -1,4 +1,5 @@
 pub mod Arriving
 pub mod Handling
+pub mod Node
 pub mod Setting
 pub mod Turn
