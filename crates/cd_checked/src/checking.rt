@@ -1,7 +1,7 @@
 //! A part is checked where it begins.
-ghost use Rattle.std.specs.Prelude.{◌≡◌, true, false, map, option_map, IfOk};
+ghost use Rattle.std.specs.Prelude.{◌≡◌, true, map, option_map, IfOk};
 ghost use Rattle.cd_checked.specs.Kept.{allowed_kept, kept_in};
-ghost use Rattle.cd_book.specs.Book.{is_submission};
+ghost use Rattle.cd_book.specs.Book.{IsRead};
 ghost use Rattle.cd_moves.specs.Rows.{is_by, is_formed, may_record, are_allowed, checked};
 ghost use Rattle.cd_moves.specs.Seen.{seen_deed, seen_part};
 ghost use Rattle.cd_status.specs.Processes.{moment_of};
@@ -9,6 +9,7 @@ ghost use Rattle.cd_parts.specs.Desk.{desk_of};
 ghost use Rattle.cd_parts.specs.Single.{keeps_one};
 
 use crate::sending::are_sent;
+use cd_ast::Process;
 use cd_book::Texts;
 use cd_entries::Entry;
 use cd_judge::may_follow;
@@ -68,12 +69,18 @@ fn is_formed(entry: &Entry) -> bool
     }
 }
 
-/// Whether an entry may be recorded now.
-fn may_record<T: Texts>(desk: &Desk<T>, now: Moment, entry: &Entry) -> bool
-    requires { is_submission entry.now ≡ false }
+/// Whether an entry may be recorded now: it may follow the entries of the desk, isn't of a later moment, and can be written. With a
+/// submission comes the Process that its text reads as.
+pub fn may_record<T: Texts>(
+    desk: &Desk<T>,
+    now: Moment,
+    entry: &Entry,
+    process: Option<&Process>,
+) -> bool
+    requires { IsRead T.read entry.now (option_map (λ p. p.now) process) }
     ensures { result ≡ may_record T.read now desk.now.book.now.entries entry.now }
 {
-    may_follow(desk.book, entry, None) && is_by(now, moment_of(entry)) && is_formed(entry)
+    may_follow(desk.book, entry, process) && is_by(now, moment_of(entry)) && is_formed(entry)
 }
 
 /// The entry that deeds record, where one does.
@@ -101,7 +108,7 @@ fn is_entry_allowed<T: Texts>(desk: &Desk<T>, now: Moment, deeds: &[Deed<'_>]) -
 {
     match kept_in(deeds) {
         None => true,
-        Some(entry) => may_record(desk, now, entry),
+        Some(entry) => may_record(desk, now, entry, None),
     }
 }
 

@@ -4,4 +4,4 @@
 mod checking;
 mod sending;
 
-pub use checking::checked;
+pub use checking::{checked, may_record};

@@ -1,5 +1,4 @@
 pub mod Arriving
 pub mod Handling
-pub mod Node
 pub mod Setting
 pub mod Turn

@@ -4,15 +4,9 @@
 mod arriving;
 mod at_hand;
 mod ending;
-mod handled;
-mod node;
+mod recording;
 mod rules;
 mod taking;
 mod turn;
 
-pub use handled::{Handled, Happening};
-pub use node::Node;
 pub use rules::PlainRules;
-
-#[cfg(test)]
-mod tests;
