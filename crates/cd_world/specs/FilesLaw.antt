@@ -1,5 +1,5 @@
 -- What is safe of the files that are received, and what changes keep of it.
-use Rattle.std.proofs.Common.{◌≡◌, ℕ, zero, suc, ◌+◌, ◌-◌, ◌≤◌, Bool, true, false, cond, List, [], ◌∷◌, ◌++◌, length, take, Option, Some, None, min, ◌⊎◌, inl, inr, refl, sym, ◌∙◌, ap, subst, arith, length-append, length-take}
+use Rattle.std.proofs.Common.{◌≡◌, ℕ, ◌+◌, ◌≤◌, Bool, true, false, cond, List, [], ◌∷◌, ◌++◌, length, take, Option, Some, None, min, ◌⊎◌, inl, inr, refl, sym, ◌∙◌, ap, subst, arith, length-append, length-take}
 use Rattle.std.specs.Prelude.{option_map}
 use Rattle.std.specs.List.{list_any}
 use Rattle.std.specs.Str.{bytes_eq}
@@ -16,11 +16,9 @@ use Rattle.cd_outside.specs.Shelf as shelves
 use Rattle.cd_outside.specs.Shelf.{FileDoubt, FileChange, WriteFile, CutFile, SyncFile, RemoveFile, Shelf, IsFileImage, content_of, settled_file, file_after, file_doubt_within, name_of, within, changed}
 use Rattle.cd_types.specs.declared.choices.Disp.{Disp}
 use Rattle.cd_types.specs.declared.choices.Disp.TheVariants as disp
-use Rattle.cd_types.specs.declared.key.Key.{Key}
 use Rattle.cd_types.specs.declared.rows.Receiving.{Receiving}
 use Rattle.cd_moves.specs.declared.session.Phase.{Phase}
 use Rattle.cd_moves.specs.declared.session.Phase.TheVariants.{Take}
-use Rattle.cd_entries.specs.declared.entry.Entry.{Entry}
 use Rattle.cd_status.specs.Status as status
 use Rattle.cd_status.specs.Status.{Status}
 use Rattle.cd_moves.specs.Receiving.{kept_base, is_there, undo}

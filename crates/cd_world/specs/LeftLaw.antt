@@ -1,12 +1,11 @@
 -- After every list of events the files hold what is settled, and what is settled is what the notes leave.
-use Rattle.std.proofs.Common.{◌≡◌, ℕ, ◌+◌, Bool, true, false, cond, ◌&&◌, List, [], ◌∷◌, ◌++◌, length, take, drop, Option, Some, None, inl, inr, refl, sym, ◌∙◌, ap, subst}
+use Rattle.std.proofs.Common.{◌≡◌, ℕ, ◌+◌, Bool, true, false, cond, ◌&&◌, List, [], ◌∷◌, length, take, Option, Some, None, inl, inr, refl, sym, ◌∙◌, ap, subst}
 use Rattle.std.specs.Str.{bytes_eq}
 use Rattle.std.proofs.lemmas.Bool.{cases_Bool, cond-true, cond-false}
 use Rattle.std.proofs.lemmas.Slice.Eq.{bytes_eq-Decides}
 use Rattle.cd_outside.specs.Disposition.{landed, dropped}
 use Rattle.cd_outside.specs.Shelf as shelves
 use Rattle.cd_outside.specs.Shelf.{FileMap, FileDoubt, IsFileImage}
-use Rattle.cd_types.specs.declared.card.Filed.{Filed as Card}
 use Rattle.cd_types.specs.declared.key.Key.{Key}
 use Rattle.cd_types.specs.declared.rows.Receiving.{Receiving}
 use Rattle.cd_entries.specs.declared.entry.Entry.{Entry}
@@ -21,7 +20,7 @@ use Rattle.cd_legal.specs.OpeningsLaw as openings
 use Rattle.cd_moves.specs.Closing.{key_under_way}
 use Rattle.cd_moves.specs.Node.{Deed, Keep, Touch, AskSize, AskBytes, Begin, Go, Answers}
 use Rattle.cd_moves.specs.Rows.{row_choose, row_trouble}
-use Rattle.cd_world.specs.World.{At, A, B, across, Note, Half, World, seen_from, landed_by, dropped_by, settled_by, landing_of, dropping_of, noted_by, read_for, is_gone, world_did, world_does, Happening, Choice, Call, Frame, End, Task, nothing, opens, with_session, called, came, ended, task_of, task, world_after, world_within, deeds_left, Cut, cut_off, with_shelf, world_faulted, down, world_stopped, world_started, world_lost, world_written, submission_of, world_submitted, Event, Does, Fails, Stops, Starts, Loses, Writes, Later, Submits, later, happens, after, ArePossible, IsFirst}
+use Rattle.cd_world.specs.World.{At, A, B, across, Note, Half, World, seen_from, landed_by, dropped_by, landing_of, dropping_of, read_for, is_gone, world_did, world_does, Happening, Choice, Call, Frame, End, Task, nothing, opens, with_session, called, came, ended, task_of, task, world_after, world_within, deeds_left, Cut, cut_off, with_shelf, world_faulted, down, world_stopped, world_started, world_lost, world_written, submission_of, world_submitted, Event, Does, Fails, Stops, Starts, Loses, Writes, Later, Submits, happens, after, ArePossible, IsFirst}
 use Rattle.cd_world.specs.Holds.{journal_of, is_at, Begins, safe_part, IsAsSettled, Stands, AllStand, HaveFiles, left_of, AreLeft}
 use Rattle.cd_world.specs.AgreedLaw.{at_self, not_across}
 use Rattle.cd_world.specs.GrownLaw.{BothGrown, after_grown, first_sound}
@@ -47,8 +46,7 @@ module _ (a : Half) (h : Standing a) (legal : is_legal a.node.desk.config.read (
       let m : mark (journal_of a) r.key ≡ safe = marked_enough (status.status (journal_of a) r.key) _ (mark (journal_of a) r.key) _ r safe (status_says (journal_of a) r.key) opens in
       let part : front_of a r safe ≡ safe_part a r = ap (front_of a r) (sym m) in
       let long : length (safe_part a r) ≡ r.base + mark (journal_of a) r.key = ap (λ (l : List ℕ). length l) (sym part) ∙ front_length a r safe file.0 held.0 ∙ ap (λ (n : ℕ). r.base + n) (sym m) in
-      let told : Begins (front_of a r safe) (a.node.shelf.seen r.name) = safe_begins (front_of a r safe) (a.node.shelf.seen r.name) (a.node.shelf.doubt r.name) file.1 in
-      (
+      let told : Begins (front_of a r safe) (a.node.shelf.seen r.name) = safe_begins (front_of a r safe) (a.node.shelf.seen r.name) (a.node.shelf.doubt r.name) file.1 in (
         (subst (λ (n : List ℕ). Begins (safe_part a r) (a.node.shelf.seen n)) found.0 (subst (λ (front : List ℕ). Begins front (a.node.shelf.seen r.name)) part told), long),
         λ image left.
             let at_r : IsFileImage (a.node.shelf.doubt r.name) image = subst (λ (n : List ℕ). IsFileImage (a.node.shelf.doubt n) image) (sym found.0) left in

@@ -345,13 +345,16 @@ module _ (x : At) (sid : ℕ) where
     drop_good w role talk key why silent known holds frees = record {
       fit = ((omega arith, holds, λ r safe is. inl refl), tt);
       back = refl;
-      then = (silent, record {
-        holds = holds;
-        frees = frees;
-        backs = λ r safe is.
-            let before = marked_opens 0 (status.status (journal_of w.a) key) r safe (sym (status-own (entry.Mark key 0) (journal_of w.a) key (same_key-refl key)) ∙ is) in
-            (known.keyed key r before.0 before.1, before.2, λ clean. let file : OnFile w.a r before.0 = (known.files key r before.0 before.1).2 clean in (file.0, file_back w.a r before.0 file));
-      });
+      then = (
+        silent,
+        record {
+          holds = holds;
+          frees = frees;
+          backs = λ r safe is.
+              let before = marked_opens 0 (status.status (journal_of w.a) key) r safe (sym (status-own (entry.Mark key 0) (journal_of w.a) key (same_key-refl key)) ∙ is) in
+              (known.keyed key r before.0 before.1, before.2, λ clean. let file : OnFile w.a r before.0 = (known.files key r before.0 before.1).2 clean in (file.0, file_back w.a r before.0 file));
+        },
+      );
     }
 
     undo_good : (w : World) (r : Receiving) (d : Disp) → GoodWrite w (undo r d)
@@ -581,9 +584,9 @@ module _ (x : At) (sid : ℕ) where
     marks_good w false role talk r safe offset silent enough opens holds low there =
         let still : OfOpen (journal_of w.a) r.key (λ r2 safe2. AtRest w.a r2 safe2 offset) =
         λ r2 safe2 is.
-            let same = same_open r r2 safe safe2 (sym opens ∙ is) in
-            let m : safe ≡ safe2 = same.1 in
-            subst (λ (q : Receiving). AtRest w.a q safe2 offset) same.0 (inr (omega (arith, low, m), there)) in
+        let same = same_open r r2 safe safe2 (sym opens ∙ is) in
+        let m : safe ≡ safe2 = same.1 in
+        subst (λ (q : Receiving). AtRest w.a q safe2 offset) same.0 (inr (omega (arith, low, m), there)) in
         (record { quiet = omega (arith, silent); sent = (tt, tt); takes = λ holds2 r2 safe2 is. enough; rests = λ goes holds2 r2 safe2 is. still r2 safe2 is }, tt)
 
     take_good : (w : World) (role : Side) (talk : Talk) (r : Receiving) (safe came : ℕ) (bytes : List ℕ) → Silent w → (b : Brought w (r.base + came) bytes) → b.key ≡ r.key → b.came ≡ came
@@ -868,9 +871,9 @@ module _ (x : At) (sid : ℕ) where
     forget_good : (w : World) (talk : Talk) (last : Option Key) (n : ℕ) → Calm w → Good w (forget w.a.node.desk talk last n)
     forget_good w talk last n calm =
         record { fit = by_known (is_forgotten (journal_of w.a) talk.pnode talk.home n); back = rested_last true (cond (is_forgotten (journal_of w.a) talk.pnode talk.home n) [] (Keep (entry.Forgot talk.pnode talk.home n) ∷ [])) (Ready (with_number n talk) last) [] refl; then = tt } where
-      by_known : (b : Bool) → AllGood w (cond b [] (Keep (entry.Forgot talk.pnode talk.home n) ∷ []) ++ Go (Ready (with_number n talk) last) [] ∷ [])
-      by_known true = (record { quiet = omega (arith, calm); sent = tt; takes = tt; rests = tt }, tt)
-      by_known false = (tt, (record { quiet = omega (arith, calm); sent = tt; takes = tt; rests = tt }, tt))
+          by_known : (b : Bool) → AllGood w (cond b [] (Keep (entry.Forgot talk.pnode talk.home n) ∷ []) ++ Go (Ready (with_number n talk) last) [] ∷ [])
+          by_known true = (record { quiet = omega (arith, calm); sent = tt; takes = tt; rests = tt }, tt)
+          by_known false = (tt, (record { quiet = omega (arith, calm); sent = tt; takes = tt; rests = tt }, tt))
 
     ready_row_good : (w : World) (phase : Phase) (talk : Talk) (last : Option Key) (m : Message) → Known w → Calm w → (speaks m ≡ 1 → Silent w) → Good w (row_ready w.a.node.desk w.a.node.sessions now sid phase talk last m)
     ready_row_good w phase talk last (message.StepCopyTo key name disp interval len) known calm quiet =

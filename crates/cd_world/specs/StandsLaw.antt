@@ -1,5 +1,5 @@
 -- What the files hold is carried over the deeds of every row.
-use Rattle.std.proofs.Common.{◌≡◌, ℕ, zero, suc, ◌+◌, ◌-◌, ◌≤◌, Bool, true, false, cond, ◌&&◌, eqb, leb, List, [], ◌∷◌, ◌++◌, length, take, Option, Some, None, ◌⊎◌, inl, inr, refl, sym, ◌∙◌, ap, subst, arith, min, length-take}
+use Rattle.std.proofs.Common.{◌≡◌, ℕ, zero, suc, ◌+◌, ◌-◌, ◌≤◌, Bool, true, false, ◌&&◌, eqb, leb, List, [], ◌∷◌, ◌++◌, length, take, Option, Some, ◌⊎◌, inl, inr, refl, sym, ◌∙◌, ap, subst, arith, min, length-take}
 use Rattle.std.specs.Prelude.{not}
 use Rattle.std.specs.Str.{bytes_eq}
 use Rattle.std.proofs.lemmas.Bool.{cases_Bool, and_parts, cond-true, cond-false, false≢true, false_from_ne_true, eqb-true, eq-eqb}
@@ -38,7 +38,7 @@ use Rattle.cd_moves.specs.Closing.{key_under_way}
 use Rattle.cd_moves.specs.Node.{Deed, Keep, Touch, AskSize, AskBytes, Begin, Go, put, did, does}
 use Rattle.cd_moves.specs.Receiving.{kept_base}
 use Rattle.cd_moves.specs.RowsLaw.{part_extends}
-use Rattle.cd_world.specs.FilesLaw.{IsSafe, KeepsSafe, doubt_after, NotSpoiled, front_of, size, ToldOf, OnFile, Held, AtRest, Rested, kept_length, front_length, rest_low, rest_came, file_back, marked_opens, safe_begins, safe_image, safe_settled, safe_after, safe_within, safe_left, settled_image, seen_same, within_same, doubt_same, seen_other, within_other, doubt_other, put_there}
+use Rattle.cd_world.specs.FilesLaw.{IsSafe, KeepsSafe, doubt_after, NotSpoiled, front_of, size, ToldOf, OnFile, Held, AtRest, Rested, kept_length, front_length, rest_came, file_back, marked_opens, safe_image, safe_settled, safe_after, safe_within, safe_left, settled_image, seen_same, within_same, doubt_same, seen_other, within_other, doubt_other, put_there}
 use Rattle.cd_world.specs.GuardsLaw.{over_start}
 use Rattle.cd_world.specs.Holds.{journal_of, Begins}
 use Rattle.cd_world.specs.World.{At, Half, World, written_for, written_by, readied, landed_by, dropped_by, world_did, world_does, Cut, Unchanged, Begun, cut_off, MayLeave, IsCutOff, with_shelf, IsLeft, down}
@@ -130,8 +130,7 @@ same_held a a2 r safe same h = (
       let old : IsSafe (take r.base (content_of (a2.settled r.name)) ++ take safe (a.received r.key)) (a.node.shelf.seen r.name) (a.node.shelf.doubt r.name) =
       subst (λ (o : Option (List ℕ)). IsSafe (take r.base (content_of o) ++ take safe (a.received r.key)) (a.node.shelf.seen r.name) (a.node.shelf.doubt r.name)) (sym f.1) on.1 in
       let got : IsSafe (front_of a2 r safe) (a.node.shelf.seen r.name) (a.node.shelf.doubt r.name) =
-      subst (λ (g : List ℕ). IsSafe (take r.base (content_of (a2.settled r.name)) ++ take safe g) (a.node.shelf.seen r.name) (a.node.shelf.doubt r.name)) (sym same.got) old in
-      (
+      subst (λ (g : List ℕ). IsSafe (take r.base (content_of (a2.settled r.name)) ++ take safe g) (a.node.shelf.seen r.name) (a.node.shelf.doubt r.name)) (sym same.got) old in (
         subst (ToldOf r) (sym f.1) on.0,
         subst (λ (d : FileDoubt). IsSafe (front_of a2 r safe) (a2.node.shelf.seen r.name) d) (sym f.3)
             (subst (λ (s : Option (List ℕ)). IsSafe (front_of a2 r safe) s (a.node.shelf.doubt r.name)) (sym f.2) got),
@@ -141,11 +140,14 @@ same_held a a2 r safe same h = (
 pub same_rest : (a a2 : Half) (r : Receiving) (safe came : ℕ) → SameAt a a2 r → AtRest a r safe came → AtRest a2 r safe came
 same_rest a a2 r safe came same (inl at) = inl at
 same_rest a a2 r safe came same (inr behind) =
-    inr (behind.0, λ clean.
-    let f = same.file clean in
-    subst (λ (s : Option (List ℕ)). Begins (front_of a2 r came) s) (sym f.2)
-    (subst (λ (g : List ℕ). Begins (take r.base (content_of (a2.settled r.name)) ++ take came g) (a.node.shelf.seen r.name)) (sym same.got)
-    (subst (λ (o : Option (List ℕ)). Begins (take r.base (content_of o) ++ take came (a.received r.key)) (a.node.shelf.seen r.name)) (sym f.1) (behind.1 f.0))))
+    inr (
+      behind.0,
+      λ clean.
+          let f = same.file clean in
+          subst (λ (s : Option (List ℕ)). Begins (front_of a2 r came) s) (sym f.2)
+          (subst (λ (g : List ℕ). Begins (take r.base (content_of (a2.settled r.name)) ++ take came g) (a.node.shelf.seen r.name)) (sym same.got)
+          (subst (λ (o : Option (List ℕ)). Begins (take r.base (content_of o) ++ take came (a.received r.key)) (a.node.shelf.seen r.name)) (sym f.1) (behind.1 f.0))),
+    )
 
 pub rested_more : (n : ℕ) (a a2 : Half) → ((key : Key) → a2.node.sessions.holder key ≡ Some n → a.node.sessions.holder key ≡ Some n)
     → ((key : Key) (r : Receiving) (safe : ℕ) → a2.node.sessions.holder key ≡ Some n → status.status (journal_of a2) key ≡ status.Open r safe → (status.status (journal_of a) key ≡ status.Open r safe) × SameAt a a2 r)
@@ -296,9 +298,9 @@ module _ (x : At) (sid : ℕ) (a : Half) (h : Standing a) (legal : is_legal a.no
                   elim (cases_Bool (same_key key step)) [
                     | inl same ↦
                         λ name_is.
-                            let there : status.status (journal_of a) step ≡ status.Open r safe = subst (λ (k : Key). status.status (journal_of a) k ≡ status.Open r safe) (same_key-true key step same) opens2 in
-                            let q_is : q ≡ r = (open_same q r m safe (sym opens ∙ there)).0 in
-                            false≢true (sym other ∙ (bytes_eq-Decides q.name name).1 (ap (λ (y : Receiving). y.name) q_is ∙ name_is))
+                        let there : status.status (journal_of a) step ≡ status.Open r safe = subst (λ (k : Key). status.status (journal_of a) k ≡ status.Open r safe) (same_key-true key step same) opens2 in
+                        let q_is : q ≡ r = (open_same q r m safe (sym opens ∙ there)).0 in
+                        false≢true (sym other ∙ (bytes_eq-Decides q.name name).1 (ap (λ (y : Receiving). y.name) q_is ∙ name_is))
                     | inr apart ↦ nobody key r safe (still_open key r safe apart opens2)
                   ]) in
                   (is.0 ∙ sym now, is.1 ∙ ap settled_file (sym now))
@@ -406,19 +408,18 @@ module _ (x : At) (sid : ℕ) (a : Half) (h : Standing a) (legal : is_legal a.no
     new_file {s} is closed clean =
         let nobody : NobodyOn a q.name =
         λ key r safe opens names.
-            elim (cases_Bool (same_key key q.key)) [
-              | inl same ↦ subst NotOpen (sym is ∙ subst (λ (k : Key). status.status (journal_of a) k ≡ status.Open r safe) (same_key-true key q.key same) opens) closed
-              | inr apart ↦
-                  let still : status.status (entry.Receiving q ∷ journal_of a) key ≡ status.Open r safe = status-other (entry.Receiving q) (journal_of a) key apart ∙ opens in
-                  let differ : bytes_eq r.name q.name ≡ false = names_apart a.node.desk.config.read (entry.Receiving q ∷ journal_of a) legal2 key q.key r q safe 0 still open_now apart in
-                  false≢true (sym differ ∙ (bytes_eq-Decides r.name q.name).1 names)
-            ] in
+        elim (cases_Bool (same_key key q.key)) [
+          | inl same ↦ subst NotOpen (sym is ∙ subst (λ (k : Key). status.status (journal_of a) k ≡ status.Open r safe) (same_key-true key q.key same) opens) closed
+          | inr apart ↦
+              let still : status.status (entry.Receiving q ∷ journal_of a) key ≡ status.Open r safe = status-other (entry.Receiving q) (journal_of a) key apart ∙ opens in
+              let differ : bytes_eq r.name q.name ≡ false = names_apart a.node.desk.config.read (entry.Receiving q ∷ journal_of a) legal2 key q.key r q safe 0 still open_now apart in
+              false≢true (sym differ ∙ (bytes_eq-Decides r.name q.name).1 names)
+        ] in
         let is_free = h.free q.name clean nobody in
         let old : ToldOf q (a.settled q.name) = subst (ToldOf q) is_free.0 (told (λ r safe opens. subst NotOpen (sym is ∙ opens) closed)) in
         let kept : List ℕ = take q.base (content_of (a.settled q.name)) in
         let begins : Begins kept (a.settled q.name) = ap (λ (n : ℕ). take n (content_of (a.settled q.name))) (kept_length q (a.settled q.name) old) in
-        let safe : IsSafe kept (a.settled q.name) (settled_file (a.settled q.name)) = safe_settled kept (a.settled q.name) begins in
-        (
+        let safe : IsSafe kept (a.settled q.name) (settled_file (a.settled q.name)) = safe_settled kept (a.settled q.name) begins in (
           old,
           subst (λ (front : List ℕ). IsSafe front (a.node.shelf.seen q.name) (a.node.shelf.doubt q.name)) (sym (append-nil kept))
               (subst (λ (d : FileDoubt). IsSafe kept (a.node.shelf.seen q.name) d) (sym is_free.1) (subst (λ (f : Option (List ℕ)). IsSafe kept f (settled_file (a.settled q.name))) (sym is_free.0) safe)),
@@ -434,8 +435,7 @@ module _ (x : At) (sid : ℕ) (a : Half) (h : Standing a) (legal : is_legal a.no
         let old : ToldOf before (a.settled q.name) = subst (λ (n : List ℕ). ToldOf before (a.settled n)) (sym again.name) file.0 in
         let back : IsSafe (take before.base (content_of (a.settled before.name)) ++ []) (a.node.shelf.seen before.name) (a.node.shelf.doubt before.name) = file_back a before m file in
         let named : IsSafe (take before.base (content_of (a.settled q.name)) ++ []) (a.node.shelf.seen q.name) (a.node.shelf.doubt q.name) =
-        subst (λ (n : List ℕ). IsSafe (take before.base (content_of (a.settled n)) ++ []) (a.node.shelf.seen n) (a.node.shelf.doubt n)) (sym again.name) back in
-        (
+        subst (λ (n : List ℕ). IsSafe (take before.base (content_of (a.settled n)) ++ []) (a.node.shelf.seen n) (a.node.shelf.doubt n)) (sym again.name) back in (
           (same_flag q.there before.there again.there ∙ old.0, again.base ∙ old.1 ∙ ap (λ (d : Disp). kept_base d (size (a.settled q.name))) (sym again.disp)),
           subst (λ (n : ℕ). IsSafe (take n (content_of (a.settled q.name)) ++ []) (a.node.shelf.seen q.name) (a.node.shelf.doubt q.name)) (sym again.base) named,
         )
@@ -617,16 +617,14 @@ module _ (x : At) (sid : ℕ) where
         let held : Held w.a u.r u.safe = h.held u.r.key u.r u.safe u.open_is in
         let grew : Grew w change u = touched_own w change good held in
         let longer : length (w.a.received u.r.key) ≤ length (a2.received u.r.key) = grew.longer in
-        let marks : u.safe ≤ length (w.a.received u.r.key) = held.0 in
-        (
+        let marks : u.safe ≤ length (w.a.received u.r.key) = held.0 in (
           omega (arith, longer, marks),
           grew.short,
           λ clean.
               let file : OnFile w.a u.r u.safe = held.2 clean in
               let keeps : KeepsSafe (length (front_of w.a u.r u.safe)) change = subst (λ (n : ℕ). KeepsSafe n change) (sym (front_length w.a u.r u.safe file.0 held.0)) (u.keeps clean) in
               let front : front_of w.a u.r u.safe ≡ front_of a2 u.r u.safe = ap (λ (got : List ℕ). take u.r.base (content_of (w.a.settled u.r.name)) ++ got) (sym (grew.same clean)) in
-              let safe = safe_after (front_of w.a u.r u.safe) (w.a.node.shelf.seen u.r.name) (w.a.node.shelf.doubt u.r.name) change file.1 keeps in
-              (
+              let safe = safe_after (front_of w.a u.r u.safe) (w.a.node.shelf.seen u.r.name) (w.a.node.shelf.doubt u.r.name) change file.1 keeps in (
                 file.0,
                 subst (λ (f : List ℕ). IsSafe f (a2.node.shelf.seen u.r.name) (a2.node.shelf.doubt u.r.name)) front
                     (subst (λ (d : FileDoubt). IsSafe (front_of w.a u.r u.safe) (a2.node.shelf.seen u.r.name) d) (sym (doubt_same change w.a.node.shelf u.r.name (own_name change u)))
@@ -678,8 +676,7 @@ module _ (x : At) (sid : ℕ) where
                 let held : Held w.a r safe = h.held key r safe opens in
                 let name_is : name_of change ≡ r.name = sym u.name_is ∙ ap (λ (y : Receiving). y.name) own.0 in
                 let seen : shelves.put (name_of change) left w.a.node.shelf.seen r.name ≡ left = cond-true (bytes_eq (name_of change) r.name) left (w.a.node.shelf.seen r.name) ((bytes_eq-Decides (name_of change) r.name).1 name_is) in
-                let image : IsFileImage (within change w.a.node.shelf r.name) left = subst (λ (n : List ℕ). IsFileImage (within change w.a.node.shelf n) left) name_is is in
-                (
+                let image : IsFileImage (within change w.a.node.shelf r.name) left = subst (λ (n : List ℕ). IsFileImage (within change w.a.node.shelf n) left) name_is is in (
                   held.0,
                   held.1,
                   λ clean. (

@@ -36,7 +36,7 @@ use Rattle.cd_world.specs.GrownLaw.{does_node, BothGrown, BothSound, within_grow
 use Rattle.cd_world.specs.AgreedLaw.{fresh_first}
 use Rattle.cd_world.specs.PiecesLaw.{speaks, speaking, on_way, OfOpen, Silent, Took, HeardTrue, RestsOn, GoesOn, AllGood, Goes, rested, rested_last, rested_close, row_good, choose_good, close_good, told_abort, still_takes}
 use Rattle.cd_world.specs.FilesLaw.{IsSafe, NotSpoiled, front_of, Held, Rested, put_there}
-use Rattle.cd_world.specs.StandsLaw.{Standing, Filed, FiledIn, BothFiled, filed_in, filed_out, SameAt, keyed, same_held, rested_more, keep_filed, does_filed, others_filed, cut_filed, down_filed}
+use Rattle.cd_world.specs.StandsLaw.{Filed, FiledIn, BothFiled, filed_in, filed_out, SameAt, keyed, same_held, rested_more, keep_filed, does_filed, others_filed, cut_filed, down_filed}
 use Rattle.cd_world.specs.SourcesLaw.{TookAt, HeardAt, AllHeardAt, Sourced, BothSourced, renoted, go_tokens, heard_take, speaking_take, way_at, keep_sourced, does_sourced}
 
 -- The deeds behind a first part.
@@ -305,8 +305,7 @@ faulted_both x w h f sound happening told k cut is =
     let short_filed : FiledIn t.sid false short.a =
     cut_filed x t.sid cut (drop k t.deeds) first (rested true (take k t.deeds)) grown.a.sound.legal is left (within_filed x w h f sound happening told k) in
     let legal : is_legal short.a.node.desk.config.read (does t.sid closing.deeds short.a.node).desk.journal ≡ true = deeds_legal x short t.sid closing.deeds closed in
-    let ends : rested false closing.deeds ≡ true = trouble_back short.a.node.desk short.clock (short.a.node.sessions.phase t.sid) in
-    (
+    let ends : rested false closing.deeds ≡ true = trouble_back short.a.node.desk short.clock (short.a.node.sessions.phase t.sid) in (
       does_sourced x t.sid closing.deeds short short_sourced good legal,
       record {
         a = filed_out t.sid (world_does x t.sid closing.deeds short).a (subst (λ (b : Bool). FiledIn t.sid b (world_does x t.sid closing.deeds short).a) ends (does_filed x t.sid closing.deeds short false short_filed good legal));
@@ -409,8 +408,7 @@ module _ (x : At) (w : World) (f : BothFiled w) (sound : BothSound w) where
       let short : length g ≤ r.length = held.1 in
       let len : length (take m g) ≡ min m (length g) = length-take m g in
       let front : front_of w.a r safe ≡ take r.base (content_of (w.a.settled r.name)) ++ take safe (take m g) =
-      ap (λ (got : List ℕ). take r.base (content_of (w.a.settled r.name)) ++ got) (sym (take-take safe m g (omega (arith, same)))) in
-      (
+      ap (λ (got : List ℕ). take r.base (content_of (w.a.settled r.name)) ++ got) (sym (take-take safe m g (omega (arith, same)))) in (
         omega (arith, len, same, enough),
         omega (arith, len, short),
         λ clean. ((held.2 clean).0, subst (λ (l : List ℕ). IsSafe l (w.a.node.shelf.seen r.name) (w.a.node.shelf.doubt r.name)) front (held.2 clean).1),
@@ -469,15 +467,13 @@ module _ (x : At) (w : World) (f : BothFiled w) (sound : BothSound w) where
           free = λ other clean nobody.
               elim (cases_Bool (bytes_eq name other)) [
                 | inl same ↦
-                    let now : shelves.put name (Some bytes) w.a.settled other ≡ Some bytes = cond-true (bytes_eq name other) (Some bytes) (w.a.settled other) same in
-                    (
+                    let now : shelves.put name (Some bytes) w.a.settled other ≡ Some bytes = cond-true (bytes_eq name other) (Some bytes) (w.a.settled other) same in (
                       cond-true (bytes_eq name other) (Some bytes) (w.a.node.shelf.seen other) same ∙ sym now,
                       cond-true (bytes_eq name other) (settled_file (Some bytes)) (w.a.node.shelf.doubt other) same ∙ ap settled_file (sym now),
                     )
                 | inr apart ↦
                     let now : shelves.put name (Some bytes) w.a.settled other ≡ w.a.settled other = put_there (Some bytes) w.a.settled name other apart in
-                    let before = f.a.stands.free other (was_clean (open_on (journal_of w.a) name) other clean) nobody in
-                    (
+                    let before = f.a.stands.free other (was_clean (open_on (journal_of w.a) name) other clean) nobody in (
                       put_there (Some bytes) w.a.node.shelf.seen name other apart ∙ before.0 ∙ sym now,
                       put_there (settled_file (Some bytes)) w.a.node.shelf.doubt name other apart ∙ before.1 ∙ ap settled_file (sym now),
                     )
