@@ -31,7 +31,7 @@ use Rattle.cd_moves.specs.declared.session.Phase.{Phase}
 use Rattle.cd_moves.specs.Node.{Config, Desk, Sessions, Node, Deed, Keep, Touch, AskSize, AskBytes, Begin, Go, Answers, did, does, recorded}
 use Rattle.cd_moves.specs.Rows.{row_choose, row_trouble}
 use Rattle.cd_moves.specs.RowsLaw.{same_config, part_extends}
-use Rattle.cd_world.specs.World.{At, A, B, across, Note, Half, World, seen_from, landing_of, noted_by, read_for, is_gone, at_session, behind_them, world_did, world_does, Happening, Choice, Call, Frame, End, Task, nothing, opens, with_session, called, answers_now, came, ended, task_of, task, world_after, world_within, deeds_left, Cut, cut_off, with_shelf, world_faulted, down, world_stopped, no_sessions, marked, world_started, world_lost, world_written, submission_of, world_submitted, Event, Does, Fails, Stops, Starts, Loses, Writes, Later, Submits, later, happens, after, IsNew, IsFirst, ArePossible}
+use Rattle.cd_world.specs.World.{At, A, B, across, Note, Wrote, Half, World, seen_from, landing_of, dropping_of, noted_by, read_for, is_gone, at_session, behind_them, world_did, world_does, Happening, Choice, Call, Frame, End, Task, nothing, opens, with_session, called, answers_now, came, ended, task_of, task, world_after, world_within, deeds_left, Cut, cut_off, with_shelf, world_faulted, down, world_stopped, no_sessions, marked, world_started, world_lost, world_written, submission_of, world_submitted, Event, Does, Fails, Stops, Starts, Loses, Writes, Later, Submits, later, happens, after, IsNew, IsFirst, ArePossible}
 use Rattle.cd_world.specs.Holds.{journal_of, IsOutcome, IsOwnStep, EachEnded, EndsAsKept, HaveResults, is_at, landings, IsOne, LandsOnce, HaveLanded}
 use Rattle.cd_world.specs.DeedsLaw.{PhaseOk, EndedBy, KeepOk, SentOk, AllSent, AllFit, HeardOk, row_ok, choose_ok, close_ok, trouble_ok}
 use Rattle.cd_world.specs.GrownLaw.{does_node, BothGrown, BothSound, within_grown, whole_grown, trouble_grown, legal_more, happens_grown, after_grown, first_sound}
@@ -252,6 +252,13 @@ module _ (x : At) (read : Reading) (journal : List Entry) (received : Key → Li
       let one = and_parts (eqb safe 0) (eqb rc 8) two.0 in
       false≢true (subst (λ (m : ℕ). eqb m 8 ≡ true) is one.1)
 
+  -- what is dropped doesn't land
+  dropping_lands : (s : Status) (key : Key) → landings x key (dropping_of x s notes) ≡ landings x key notes
+  dropping_lands status.Fresh key = refl
+  dropping_lands (status.Started tries kind) key = refl
+  dropping_lands (status.Open r safe) key = refl
+  dropping_lands (status.Done o) key = refl
+
   lands_more : (e : Entry) (key : Key) → is_legal read (e ∷ journal) ≡ true → ((kind : _) (step : Key) (try moment : ℕ) → e ≡ entry.Started step kind try moment → ⊥)
       → LandOk (status.status journal key) (landings x key notes) → LandOk (status.status (e ∷ journal) key) (landings x key (noted_by x journal received e notes))
   lands_more (entry.Result step o moment) key legal2 never before =
@@ -274,8 +281,11 @@ module _ (x : At) (read : Reading) (journal : List Entry) (received : Key → Li
       elim (cases_Bool (same_key key step)) [
         | inl same ↦
             let done : LandOk (status.Done (status.dropped_outcome rc why)) (landings x key notes) = λ code. absurd (drop_code (status.status journal step) rc why (follows read e journal legal2) code) in
-            subst (λ (t : Status). LandOk t (landings x key notes)) (sym (status-own e journal key same)) done
-        | inr other ↦ subst (λ (t : Status). LandOk t (landings x key notes)) (sym (status-other e journal key other)) before
+            subst (λ (t : Status). LandOk t (landings x key (noted_by x journal received e notes))) (sym (status-own e journal key same))
+            (subst (λ (landed : List (List ℕ)). LandOk (status.Done (status.dropped_outcome rc why)) landed) (sym (dropping_lands (status.status journal step) key)) done)
+        | inr other ↦
+            subst (λ (t : Status). LandOk t (landings x key (noted_by x journal received e notes))) (sym (status-other e journal key other))
+            (subst (λ (landed : List (List ℕ)). LandOk (status.status journal key) landed) (sym (dropping_lands (status.status journal step) key)) before)
       ]
   lands_more (entry.Receiving r) key legal2 never before =
       let e : Entry = entry.Receiving r in
@@ -303,6 +313,12 @@ others_landings x journal received notes (entry.Result step o moment) key = by_s
   by_status (status.Open r safe) =
       cond-false (is_at (across x) x && same_key key r.key) (received step ∷ landings (across x) key notes) (landings (across x) key notes)
       (ap (λ (b : Bool). b && same_key key r.key) (not_across x))
+others_landings x journal received notes (entry.Dropped step rc why moment) key = by_status (status.status journal step) where
+  by_status : (s : Status) → landings (across x) key (dropping_of x s notes) ≡ landings (across x) key notes
+  by_status status.Fresh = refl
+  by_status (status.Started tries kind) = refl
+  by_status (status.Done before) = refl
+  by_status (status.Open r safe) = refl
 others_landings x journal received notes (entry.Receiving r) key = refl
 others_landings x journal received notes e key = refl
 
@@ -655,8 +671,11 @@ module _ (x : At) (own_a own_b : Own) (w : World) (h : BothAgreed x own_a own_b 
       changed_agreed (world_lost sid k w).a w.clock refl refl
       (either_at (AllSent own_a (Of w.b) (journal_of w.b)) sid (take k (w.a.way sid)) w.a.way (all_sent_take own_a (Of w.b) (journal_of w.b) k (w.a.way sid) (h.a.heard sid)) h.a.heard)
 
-  written_agreed : (name bytes : List ℕ) → BothAgreed x own_a own_b (world_written name bytes w)
-  written_agreed name bytes = changed_agreed (world_written name bytes w).a w.clock refl refl h.a.heard
+  written_agreed : (name bytes : List ℕ) → BothAgreed x own_a own_b (world_written x name bytes w)
+  written_agreed name bytes =
+      let done : BothAgreed x own_a own_b (record w { a = (world_written x name bytes w).a }) = changed_agreed (world_written x name bytes w).a w.clock refl refl h.a.heard in
+      let notes : List Note = Wrote x name bytes ∷ w.notes in
+      record { a = noted x own_a (world_written x name bytes w).a w.b w.notes notes (λ key. refl) done.a; b = noted (across x) own_b w.b (world_written x name bytes w).a w.notes notes (λ key. refl) done.b }
 
   later_agreed : (seconds : ℕ) → BothAgreed x own_a own_b (later seconds w)
   later_agreed seconds = changed_agreed w.a (w.clock + seconds) refl refl h.a.heard
@@ -699,7 +718,7 @@ happens_agreed own_a own_b w (Starts x) h sound =
 happens_agreed own_a own_b w (Loses x sid k) h sound =
     there x own_a own_b w (world_lost sid k) (λ own own2 h2 sound2. lost_agreed x own own2 (seen_from x w) h2 sid k) h sound
 happens_agreed own_a own_b w (Writes x name bytes) h sound =
-    there x own_a own_b w (world_written name bytes) (λ own own2 h2 sound2. written_agreed x own own2 (seen_from x w) h2 name bytes) h sound
+    there x own_a own_b w (world_written x name bytes) (λ own own2 h2 sound2. written_agreed x own own2 (seen_from x w) h2 name bytes) h sound
 happens_agreed own_a own_b w (Later seconds) h sound = later_agreed A own_a own_b w h seconds
 happens_agreed own_a own_b w (Submits x card text) h sound =
     there x own_a own_b w (world_submitted card text) (λ own own2 h2 sound2. submitted_agreed x own own2 (seen_from x w) h2 sound2 card text) h sound

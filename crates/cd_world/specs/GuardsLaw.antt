@@ -11,7 +11,7 @@ use Rattle.cd_outside.specs.Shelf.{FileDoubt, FileChange, WriteFile, CutFile, Sy
 use Rattle.cd_outside.proofs.Contents.{length-resized, resized_within}
 use Rattle.cd_world.specs.Fronts.{BeginsWith, AreBehind, IsGuarded, KeepsFront}
 
-begins_short : (front bytes : List ℕ) → take (length front) bytes ≡ front → length front ≤ length bytes
+pub begins_short : (front bytes : List ℕ) → take (length front) bytes ≡ front → length front ≤ length bytes
 begins_short front bytes begins =
     let len : length front ≡ min (length front) (length bytes) = ap (λ (l : List ℕ). length l) (sym begins) ∙ length-take (length front) bytes in
     omega (arith, len)
@@ -57,7 +57,7 @@ cut_front n len old kept long =
     let head : length (take len old) ≡ min len (length old) = length-take len old in
     take-append-le n (take len old) _ (omega (arith, head, kept, long)) ∙ take-take n len old kept
 
-over_start : (n at : ℕ) (bytes old : List ℕ) → n ≤ at → n ≤ length old → take n (overwritten at bytes old) ≡ take n old
+pub over_start : (n at : ℕ) (bytes old : List ℕ) → n ≤ at → n ≤ length old → take n (overwritten at bytes old) ≡ take n old
 over_start n at bytes old kept long =
     let head : length (resized at old) ≡ at = length-resized at old in
     let both : length (resized at old ++ bytes) ≡ length (resized at old) + length bytes = length-append (resized at old) bytes in

@@ -1,18 +1,24 @@
 -- What holds in every world that two nodes come to.
-use Rattle.std.specs.Prelude.{◌≡◌, ℕ, List, [], ◌∷◌, ◌++◌, length, take, drop, Bool, true, false, ◌&&◌, Some, if◌then◌else◌}
+use Rattle.std.specs.Prelude.{◌≡◌, ℕ, ◌+◌, List, [], ◌∷◌, ◌++◌, length, take, drop, Bool, true, false, ◌&&◌, Option, Some, None, if◌then◌else◌}
+use Rattle.std.specs.List.{list_any}
+use Rattle.std.specs.Str.{bytes_eq}
+use Rattle.cd_outside.specs.Disposition.{landed, dropped}
+use Rattle.cd_outside.specs.Shelf.{FileMap, IsFileImage, content_of}
 use Rattle.cd_types.specs.declared.choices.Cause.{Cause}
 use Rattle.cd_types.specs.declared.key.Key.{Key}
 use Rattle.cd_types.specs.declared.rows.Outcomes.{Outcomes}
+use Rattle.cd_types.specs.declared.rows.Receiving.{Receiving}
 use Rattle.cd_entries.specs.declared.entry.Entry.{Entry}
 use Rattle.cd_entries.specs.declared.entry.Entry.TheVariants as entry
 use Rattle.cd_ast.specs.declared.process.CopyStep.{CopyStep}
 use Rattle.cd_ast.specs.declared.process.What.TheVariants as what
 use Rattle.cd_status.specs.Keys.{same_key}
+use Rattle.cd_status.specs.Openings.{open_on}
 use Rattle.cd_status.specs.Processes.{own_home}
-use Rattle.cd_status.specs.Status.{outcome}
+use Rattle.cd_status.specs.Status.{outcome, mark}
 use Rattle.cd_legal.specs.Legal.{is_legal}
 use Rattle.cd_legal.specs.Steps.{Reading, what_at, is_such, pnode_keeps}
-use Rattle.cd_world.specs.World.{At, A, B, across, Note, Sized, Read, Began, Landed, Half, World, Unless}
+use Rattle.cd_world.specs.World.{At, A, B, across, Note, Sized, Read, Began, Landed, Dropped, Wrote, Half, World, Unless}
 
 -- Journals.
 
@@ -81,6 +87,8 @@ landings x key (Landed y r got ∷ notes) = if is_at x y && same_key key r.key t
 landings x key (Sized y name size ∷ notes) = landings x key notes
 landings x key (Read y step at bytes ∷ notes) = landings x key notes
 landings x key (Began y r ∷ notes) = landings x key notes
+landings x key (Dropped y r ∷ notes) = landings x key notes
+landings x key (Wrote y name bytes ∷ notes) = landings x key notes
 
 pub record IsOne (landed : List (List ℕ)) : Type 0 where
   pub got : List ℕ
@@ -112,6 +120,8 @@ Agrees (Read y step at bytes ∷ notes) x key source = (same_key step key ≡ tr
 Agrees (Began y r ∷ notes) x key source = Unless (is_at x y && same_key key r.key) (Agrees notes x key source)
 Agrees (Landed y r got ∷ notes) x key source = Agrees notes x key source
 Agrees (Sized y name size ∷ notes) x key source = Agrees notes x key source
+Agrees (Dropped y r ∷ notes) x key source = Agrees notes x key source
+Agrees (Wrote y name bytes ∷ notes) x key source = Agrees notes x key source
 
 -- What landed is the source, whole: wherever a source of the announced length agrees with all that was read of it.
 abbrev pub AreSources : List Note → Type 0
@@ -120,3 +130,50 @@ AreSources (Landed x r got ∷ notes) = ((source : List ℕ) → length source �
 AreSources (Read y step at bytes ∷ notes) = AreSources notes
 AreSources (Began y r ∷ notes) = AreSources notes
 AreSources (Sized y name size ∷ notes) = AreSources notes
+AreSources (Dropped y r ∷ notes) = AreSources notes
+AreSources (Wrote y name bytes ∷ notes) = AreSources notes
+
+-- Files.
+
+-- a file begins with these bytes; no file has none
+abbrev pub Begins : List ℕ → Option (List ℕ) → Type 0
+Begins front file = take (length front) (content_of file) ≡ front
+
+-- what is safe of a file while it is received: of the old file what stays, and of what came all that is marked
+abbrev pub safe_part : Half → Receiving → List ℕ
+safe_part half r = take r.base (content_of (half.settled r.name)) ++ take (mark (journal_of half) r.key) (half.received r.key)
+
+-- A file is the settled one where nothing is received onto it. Else it begins with what is safe, which has all the bytes that
+-- stay and all that are marked.
+abbrev pub IsAsSettled : Half → List ℕ → Option Receiving → Option (List ℕ) → Type 0
+IsAsSettled half name None file = file ≡ half.settled name
+IsAsSettled half name (Some r) file = Begins (safe_part half r) file × (length (safe_part half r) ≡ r.base + mark (journal_of half) r.key)
+
+-- what a name gives, and whatever a crash may leave of it
+pub record Stands (half : Half) (name : List ℕ) : Type 0 where
+  pub told : IsAsSettled half name (open_on (journal_of half) name) (half.node.shelf.seen name)
+  pub left : (file : Option (List ℕ)) → IsFileImage (half.node.shelf.doubt name) file → IsAsSettled half name (open_on (journal_of half) name) file
+
+-- every name but those that someone else wrote while they were received
+abbrev pub AllStand : Half → Type 0
+AllStand half = (name : List ℕ) → list_any (bytes_eq name) half.spoiled ≡ false → Stands half name
+
+pub record HaveFiles (w : World) : Type 0 where
+  pub a : AllStand w.a
+  pub b : AllStand w.b
+
+-- What the notes of a node leave of its files, the newest first: a landing leaves what its disposition makes of the file before
+-- it and of what came, a receiving that is dropped what its disposition leaves then, and someone else's bytes stand as written.
+abbrev pub left_of : At → FileMap → List Note → FileMap
+left_of x files [] name = files name
+left_of x files (Landed y r got ∷ notes) name = if is_at x y && bytes_eq r.name name then Some (landed r.disp (left_of x files notes name) got) else left_of x files notes name
+left_of x files (Dropped y r ∷ notes) name = if is_at x y && bytes_eq r.name name then dropped r.disp (left_of x files notes name) else left_of x files notes name
+left_of x files (Wrote y other bytes ∷ notes) name = if is_at x y && bytes_eq other name then Some bytes else left_of x files notes name
+left_of x files (Sized y other size ∷ notes) name = left_of x files notes name
+left_of x files (Read y step at bytes ∷ notes) name = left_of x files notes name
+left_of x files (Began y r ∷ notes) name = left_of x files notes name
+
+-- each settled file is what the notes leave of the files of the first world
+pub record AreLeft (first w : World) : Type 0 where
+  pub a : (name : List ℕ) → w.a.settled name ≡ left_of A first.a.settled w.notes name
+  pub b : (name : List ℕ) → w.b.settled name ≡ left_of B first.b.settled w.notes name

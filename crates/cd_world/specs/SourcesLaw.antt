@@ -25,11 +25,12 @@ use Rattle.cd_moves.specs.declared.session.Phase.TheVariants.{Take}
 use Rattle.cd_moves.specs.Closing.{key_under_way}
 use Rattle.cd_moves.specs.Node.{Deed, Keep, Touch, AskSize, AskBytes, Begin, Go, put, did, does}
 use Rattle.cd_moves.specs.RowsLaw.{part_extends}
-use Rattle.cd_world.specs.World.{At, across, Note, Began, Half, World, Unless, landing_of, noted_by, read_for, written_for, written_by, readied, is_gone, at_session, behind_them, world_did, world_does}
+use Rattle.cd_world.specs.World.{At, across, Note, Began, Half, World, Unless, landing_of, dropping_of, noted_by, read_for, written_for, written_by, readied, is_gone, at_session, behind_them, world_did, world_does}
 use Rattle.cd_world.specs.Holds.{journal_of, is_at, IsFoundIn, Agrees, AreSources}
+use Rattle.cd_world.specs.FilesLaw.{marked_opens}
 use Rattle.cd_world.specs.FrontsLaw.{IsFront, front_take, front_whole, length_over, over_front}
 use Rattle.cd_world.specs.AgreedLaw.{at_self, not_across}
-use Rattle.cd_world.specs.PiecesLaw.{speaking, on_way, NotTaking, OfOpen, Silent, GoodKeep, GoodChange, SentTrue, AllTrue, TakesOn, GoesOn, AllGood}
+use Rattle.cd_world.specs.PiecesLaw.{speaking, on_way, NotTaking, OfOpen, Silent, GoodKeep, Brought, GoodChange, SentTrue, AllTrue, TakesOn, GoesOn, AllGood}
 
 abbrev pub TookAt : ℕ → Half → Phase → Type 0
 TookAt n a (Take role talk key came) = a.node.sessions.holder key ≡ Some n → OfOpen (journal_of a) key (λ r safe. came ≤ length (a.received key))
@@ -73,7 +74,7 @@ took_more : (n : ℕ) (a a2 : Half) → ((key : Key) → a2.node.sessions.holder
 took_more n a a2 holds opens grows (Take role talk key came) h = λ held r safe is. let o = opens key r safe is in grows key came (h (holds key held) r o.0 o.1)
 took_more n a a2 holds opens grows phase h = tt
 
-renoted : (x : At) (a : Half) (notes notes2 : List Note) → ((key : Key) (source : List ℕ) → Agrees notes2 x key source → Agrees notes x key source) → Sourced x a notes → Sourced x a notes2
+pub renoted : (x : At) (a : Half) (notes notes2 : List Note) → ((key : Key) (source : List ℕ) → Agrees notes2 x key source → Agrees notes x key source) → Sourced x a notes → Sourced x a notes2
 renoted x a notes notes2 weaken h = record {
   marks = h.marks;
   bytes = λ key r safe is source len agrees. h.bytes key r safe is source len (weaken key source agrees);
@@ -92,6 +93,12 @@ others_agree x journal received notes (entry.Receiving r) key source agrees =
     unless_false (is_at (across x) x && same_key key r.key) (Agrees notes (across x) key source) (ap (λ (b : Bool). b && same_key key r.key) (not_across x)) agrees
 others_agree x journal received notes (entry.Result step o moment) key source agrees = by_status (status.status journal step) agrees where
   by_status : (s : Status) → Agrees (landing_of x s (received step) notes) (across x) key source → Agrees notes (across x) key source
+  by_status status.Fresh h = h
+  by_status (status.Started tries kind) h = h
+  by_status (status.Open r safe) h = h
+  by_status (status.Done before) h = h
+others_agree x journal received notes (entry.Dropped step rc why moment) key source agrees = by_status (status.status journal step) agrees where
+  by_status : (s : Status) → Agrees (dropping_of x s notes) (across x) key source → Agrees notes (across x) key source
   by_status status.Fresh h = h
   by_status (status.Started tries kind) h = h
   by_status (status.Open r safe) h = h
@@ -145,13 +152,13 @@ module _ (x : At) (sid : ℕ) (a : Half) (notes : List Note) (h : Sourced x a no
   landing_agrees (status.Open r safe) got key source h2 = h2
   landing_agrees (status.Done o) got key source h2 = h2
 
-  -- a mark
-  marked_opens : (offset : ℕ) (s : Status) (r : Receiving) (safe : ℕ) → status.marked offset s ≡ status.Open r safe → (before : ℕ) × (s ≡ status.Open r before) × (safe ≡ offset)
-  marked_opens offset status.Fresh r safe is = absurd cc
-  marked_opens offset (status.Started tries kind) r safe is = absurd cc
-  marked_opens offset (status.Open q before) r safe is = let same : q ≡ r = cc in (before, ap (λ (y : Receiving). status.Open y before) same, cc)
-  marked_opens offset (status.Done o) r safe is = absurd cc
+  dropping_agrees : (s : Status) (key : Key) (source : List ℕ) → Agrees (dropping_of x s notes) x key source → Agrees notes x key source
+  dropping_agrees status.Fresh key source h2 = h2
+  dropping_agrees (status.Started tries kind) key source h2 = h2
+  dropping_agrees (status.Open r safe) key source h2 = h2
+  dropping_agrees (status.Done o) key source h2 = h2
 
+  -- a mark
   mark_kept : (step : Key) (offset : ℕ) → offset ≤ length (a.received step) → Sourced x (record a { node = did sid (Keep (entry.Mark step offset)) a.node }) notes
   mark_kept step offset enough = carried e notes a.settled opens marks (λ key source agrees. agrees) where
     e : Entry
@@ -392,7 +399,7 @@ module _ (x : At) (sid : ℕ) (w : World) where
   number_of : (m n : ℕ) → Some m ≡ Some n → m ≡ n
   number_of m n e = cc
 
-  readied_apart : (frames : List Message) → AllTrue x sid w frames → (g : Key → List ℕ) (key : Key) (n : ℕ) → w.a.node.sessions.holder key ≡ Some n → eqb sid n ≡ false → readied frames g key ≡ g key
+  pub readied_apart : (frames : List Message) → AllTrue x sid w frames → (g : Key → List ℕ) (key : Key) (n : ℕ) → w.a.node.sessions.holder key ≡ Some n → eqb sid n ≡ false → readied frames g key ≡ g key
   readied_apart [] sent g key n held other_session = refl
   readied_apart (message.Ready step offset ∷ frames) sent g key n held other_session =
       readied_apart frames sent.1 (put same_key step (take offset (g step)) g) key n held other_session
@@ -515,13 +522,13 @@ module _ (x : At) (sid : ℕ) where
   entry_kept : (w : World) (e : Entry) → Sourced x w.a w.notes → GoodKeep x sid w e → Sourced x (world_did x sid (Keep e) w).a (world_did x sid (Keep e) w).notes
   unfolding a_begun
   entry_kept w (entry.Receiving q) h good = receiving_kept x sid w.a w.notes h q good.0 good.1 (way_silent w good.2)
-  entry_kept w (entry.Mark step offset) h good = mark_kept x sid w.a w.notes h step offset good
+  entry_kept w (entry.Mark step offset) h good = mark_kept x sid w.a w.notes h step offset good.0
   entry_kept w (entry.Result step o moment) h good =
       let w2 : World = world_did x sid (Keep (entry.Result step o moment)) w in
       done_kept x sid w.a w.notes h (entry.Result step o moment) o w2.notes w2.a.settled (λ s. refl) (landing_agrees x sid w.a w.notes h (status.status (journal_of w.a) step) (w.a.received step))
   entry_kept w (entry.Dropped step rc why moment) h good =
       let w2 : World = world_did x sid (Keep (entry.Dropped step rc why moment)) w in
-      done_kept x sid w.a w.notes h (entry.Dropped step rc why moment) (status.dropped_outcome rc why) w.notes w2.a.settled (λ s. refl) (λ key source agrees. agrees)
+      done_kept x sid w.a w.notes h (entry.Dropped step rc why moment) (status.dropped_outcome rc why) w2.notes w2.a.settled (λ s. refl) (dropping_agrees x sid w.a w.notes h (status.status (journal_of w.a) step))
   entry_kept w (entry.Started step kind try moment) h good = absurd good
   entry_kept w e h good = plain_kept x sid w.a w.notes h e w.a.settled (λ key. refl)
 
@@ -537,7 +544,13 @@ module _ (x : At) (sid : ℕ) where
       (λ source len agrees. front_whole (w.a.received step) source (h.bytes step r safe is source len (subst (λ (k : Key). Agrees w.notes x k source) key_is agrees)) (omega (arith, len, all)), sources)
 
   entry_sources : (w : World) (e : Entry) → is_legal w.a.node.desk.config.read (journal_of w.a) ≡ true → Sourced x w.a w.notes → GoodKeep x sid w e → AreSources w.notes → AreSources (world_did x sid (Keep e) w).notes
-  entry_sources w (entry.Result step o moment) legal h good sources = landing_source w step (status.status (journal_of w.a) step) refl legal h good sources
+  entry_sources w (entry.Result step o moment) legal h good sources = landing_source w step (status.status (journal_of w.a) step) refl legal h good.0 sources
+  entry_sources w (entry.Dropped step rc why moment) legal h good sources = by_status (status.status (journal_of w.a) step) where
+    by_status : (s : Status) → AreSources (dropping_of x s w.notes)
+    by_status status.Fresh = sources
+    by_status (status.Started tries kind) = sources
+    by_status (status.Open r safe) = sources
+    by_status (status.Done o) = sources
   entry_sources w (entry.Receiving q) legal h good sources = sources
   entry_sources w e legal h good sources = sources
 
@@ -550,7 +563,8 @@ module _ (x : At) (sid : ℕ) where
   }
 
   change_kept : (w : World) (change : FileChange) → Sourced x w.a w.notes → GoodChange x sid w change → Sourced x (world_did x sid (Touch change) w).a w.notes
-  change_kept w (WriteFile name at bytes) h b =
+  change_kept w (WriteFile name at bytes) h good =
+      let b : Brought x sid w at bytes = good.0 in
       let G : Key → List ℕ = w.a.received in
       let over : List ℕ = overwritten (at - b.r.base) bytes (G b.key) in
       let one : written_by (journal_of w.a) (key_under_way (w.a.node.sessions.phase sid)) (WriteFile name at bytes) G ≡ written_for b.key at bytes (status.status (journal_of w.a) b.key) G =

@@ -48,6 +48,10 @@ pub data Note : Type 0 where
   Began : At → Receiving → Note
   -- what a node received landed: of this receiving these bytes
   Landed : At → Receiving → List ℕ → Note
+  -- a node dropped what it had begun to receive
+  Dropped : At → Receiving → Note
+  -- someone else wrote a file of a node
+  Wrote : At → List ℕ → List ℕ → Note
 
 -- One node and what is on the way to it. Beside what the node knows there is kept, for the promises alone, what each file
 -- should be when nothing is received onto it, which names were written by others while they were received, and the bytes
@@ -101,9 +105,14 @@ abbrev pub landing_of : At → Status → List ℕ → List Note → List Note
 landing_of x (status.Open r safe) got notes = Landed x r got ∷ notes
 landing_of x _ got notes = notes
 
+abbrev pub dropping_of : At → Status → List Note → List Note
+dropping_of x (status.Open r safe) notes = Dropped x r ∷ notes
+dropping_of x _ notes = notes
+
 abbrev pub noted_by : At → List Entry → (Key → List ℕ) → Entry → List Note → List Note
 noted_by x journal received (entry.Receiving r) notes = Began x r ∷ notes
 noted_by x journal received (entry.Result key o moment) notes = landing_of x (status.status journal key) (received key) notes
+noted_by x journal received (entry.Dropped key rc why moment) notes = dropping_of x (status.status journal key) notes
 noted_by x journal received _ notes = notes
 
 abbrev pub kept : ℕ → Entry → Half → Half
@@ -368,8 +377,8 @@ abbrev pub spoiled_by : Option Receiving → List ℕ → List (List ℕ) → Li
 spoiled_by None name spoiled = spoiled
 spoiled_by (Some r) name spoiled = name ∷ spoiled
 
-abbrev pub world_written : List ℕ → List ℕ → World → World
-world_written name bytes w = record w {
+abbrev pub world_written : At → List ℕ → List ℕ → World → World
+world_written x name bytes w = record w {
   a = record w.a {
     node = record w.a.node {
       shelf = record {
@@ -380,6 +389,7 @@ world_written name bytes w = record w {
     settled = shelves.put name (Some bytes) w.a.settled;
     spoiled = spoiled_by (open_on w.a.node.desk.journal name) name w.a.spoiled;
   };
+  notes = Wrote x name bytes ∷ w.notes;
 }
 
 -- A Process is submitted.
@@ -421,7 +431,7 @@ happens w (Fails x happening k cut) = seen_from x (world_faulted x happening k c
 happens w (Stops x happening k image) = seen_from x (world_stopped x happening k image (seen_from x w))
 happens w (Starts x) = seen_from x (world_started (seen_from x w))
 happens w (Loses x sid k) = seen_from x (world_lost sid k (seen_from x w))
-happens w (Writes x name bytes) = seen_from x (world_written name bytes (seen_from x w))
+happens w (Writes x name bytes) = seen_from x (world_written x name bytes (seen_from x w))
 happens w (Later seconds) = later seconds w
 happens w (Submits x card text) = seen_from x (world_submitted card text (seen_from x w))
 

@@ -1,5 +1,6 @@
 use Rattle.cd_world.specs.AgreedLaw.{events_results, events_land}
 use Rattle.cd_world.specs.GrownLaw.{events_legal, events_extend}
+use Rattle.cd_world.specs.LeftLaw.{events_files, events_left}
 use Rattle.cd_world.specs.WholeLaw.{events_sources}
 use Rattle.cd_world.proofs.law.law_of_events.Goals as goal
 
@@ -17,3 +18,9 @@ returns-clause-landings c = events_land
 
 pub returns-clause-sources : goal.returns-clause-sources
 returns-clause-sources c = events_sources
+
+pub returns-clause-files : goal.returns-clause-files
+returns-clause-files c = events_files
+
+pub returns-clause-left : goal.returns-clause-left
+returns-clause-left c = events_left
