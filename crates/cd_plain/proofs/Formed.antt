@@ -1,7 +1,7 @@
 -- Deeds that submit nothing have formed origins.
-use Rattle.std.proofs.Common.{◌≡◌, Bool, true, false, ◌&&◌, List, [], ◌∷◌, refl, absurd}
+use Rattle.std.proofs.Common.{◌≡◌, Bool, true, false, ◌&&◌, List, [], ◌∷◌}
 use Rattle.std.specs.Prelude.{not}
-use Rattle.std.proofs.lemmas.Bool.{and_parts}
+use Rattle.std.proofs.lemmas.Bool.{and_parts, false≢true}
 use Rattle.cd_entries.specs.declared.entry.Entry.{Entry}
 use Rattle.cd_entries.specs.declared.entry.Entry.TheVariants as entry
 use Rattle.cd_book.specs.Book.{is_submission}
@@ -11,6 +11,7 @@ use Rattle.cd_parts.specs.Single.{keeps_none, keeps_one}
 
 none_formed : (deeds : List Deed) → keeps_none deeds ≡ true → HaveFormedOrigins deeds
 none_formed [] p = _
+none_formed (Keep e ∷ deeds) p = absurd (false≢true p)
 none_formed (Touch change ∷ deeds) p = none_formed deeds p
 none_formed (AskSize name ∷ deeds) p = none_formed deeds p
 none_formed (AskBytes name at len ∷ deeds) p = none_formed deeds p
@@ -19,6 +20,7 @@ none_formed (Go phase frames ∷ deeds) p = none_formed deeds p
 
 entry_formed : (e : Entry) → not (is_submission e) ≡ true → HasFormedOrigin e
 entry_formed (entry.Home name home) p = _
+entry_formed (entry.Submitted number moment origin card text) p = absurd (false≢true p)
 entry_formed (entry.Placed number placed moment) p = _
 entry_formed (entry.Started step kind attempt moment) p = _
 entry_formed (entry.Receiving r) p = _

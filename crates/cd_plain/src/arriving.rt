@@ -2,6 +2,7 @@
 ghost use Rattle.std.specs.Prelude.{◌≡◌, ◌⊎◌, ◌≤◌, ◌+◌, List, length, option_map};
 ghost use Rattle.cd_outside.specs.Counts.{Rose};
 ghost use Rattle.cd_outside.specs.Lines.{NeverFell};
+ghost use Rattle.cd_types.specs.Format.{IsBytes};
 ghost use Rattle.cd_frames.specs.Message.{Message, message_of};
 ghost use Rattle.cd_frames.specs.Reading.{front};
 ghost use Rattle.cd_frames.specs.Run.{Run};
@@ -22,6 +23,12 @@ pub enum Came {
     End,
 }
 
+/// Bytes are numbers below 256.
+fn bytes_are(bytes: &[u8])
+    ensures { IsBytes bytes.now }
+{
+}
+
 /// How many bytes of a session came, which a reader takes; 0 where the session ended or failed. The reader waits.
 fn take_bytes<L: Lines>(reader: &mut Reader, lines: &mut L, sid: Sid) -> usize
     requires from { 1 ≤ sid.number }
@@ -34,8 +41,10 @@ fn take_bytes<L: Lines>(reader: &mut Reader, lines: &mut L, sid: Sid) -> usize
     ensures last { L.last lines.new ≡ L.last lines.old }
     ensures later { NeverFell (L.counts lines.old) (L.counts lines.new) }
 {
-    match lines.receive(sid, reader.room()) {
+    let room = reader.room();
+    match lines.receive(sid, room) {
         Ok(n) => {
+            bytes_are(room);
             reader.filled(n);
             n
         }

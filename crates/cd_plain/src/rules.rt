@@ -1,16 +1,20 @@
 //! The rules of a session, as a node's turn asks for them.
+ghost use Rattle.std.specs.Prelude.{◌≡◌};
+ghost use Rattle.cd_legal.specs.Steps.{what_at};
+ghost use Rattle.cd_moves.specs.Rows.{source_in};
+ghost use Rattle.cd_moves.specs.Sending.{piece_len};
 ghost use Rattle.cd_plain.specs.Setting.{setting_of};
 
 use crate::at_hand::AtHand;
-use cd_ast::{CopyStep, What};
+use cd_ast::What;
 use cd_book::{Book, Texts};
 use cd_cores::Answers;
 use cd_deeds::Holders;
 use cd_frames::Frame;
-use cd_moves::{Deed, Part, Phase, Then};
+use cd_moves::{Deed, Part, Phase, Source, Talk, Then};
 use cd_node::{Given, Question, Rules, Session};
 use cd_outside::Sid;
-use cd_parts::{Config, Desk, piece_len};
+use cd_parts::{Config, Desk, law_of_parts, piece_len};
 use cd_types::{Key, Moment, NoMemory};
 use std::alloc::Global;
 
@@ -21,10 +25,25 @@ pub struct PlainRules<'a> {
 }
 
 /// The source of a push, by its statement.
-fn source_of<'a, T: Texts>(book: &'a Book<T>, key: &Key) -> &'a [u8] {
+fn source_of<'a, T: Texts>(book: &'a Book<T>, key: &Key) -> &'a [u8]
+    ensures { result.now ≡ source_in (what_at T.read (book.now).entries key.now.number key.now.place) }
+{
     match book.what_at(key.number, key.place as usize) {
         Some(What::Copy(step)) => step.from.as_slice(),
         _ => &[],
+    }
+}
+
+/// How many bytes the piece has that begins at an offset.
+fn piece_bytes(talk: &Talk, source: &Source, offset: u64) -> u32
+    ensures { result ≡ piece_len talk.now source.now offset }
+{
+    let block = talk.block;
+    let len = piece_len(talk, source, offset);
+    if len <= block as u64 {
+        len as u32
+    } else {
+        block
     }
 }
 
@@ -42,6 +61,7 @@ impl<T: Texts> Rules<T> for PlainRules<'_> {
         phase: &Phase,
         frame: &Frame<'a>,
     ) -> Result<Part<'a>, NoMemory> {
+        law_of_parts();
         let desk = Desk {
             book,
             config: self.config,
@@ -97,7 +117,7 @@ impl<T: Texts> Rules<T> for PlainRules<'_> {
             Then::Piece(_, talk, _, source, offset) => Question::Bytes(
                 source.name.as_slice(),
                 *offset,
-                piece_len(talk, source, *offset) as u32,
+                piece_bytes(talk, source, *offset),
             ),
         }
     }
@@ -112,6 +132,7 @@ impl<T: Texts> Rules<T> for PlainRules<'_> {
         bytes: &'a [u8],
         then: &Then,
     ) -> Result<Part<'a>, NoMemory> {
+        law_of_parts();
         let desk = Desk {
             book,
             config: self.config,

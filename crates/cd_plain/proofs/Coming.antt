@@ -1,0 +1,73 @@
+-- Bytes that came go on with what a reader was given.
+use Rattle.std.proofs.Common.{◌≡◌, ℕ, List, [], ◌∷◌, length, take, ◌++◌, true, false, Option, Some, None, Ok, Err, cond, eqb, refl, sym, ap, subst, ◌∙◌, arith}
+use Rattle.std.proofs.lemmas.List.{append-nil}
+use Rattle.std.proofs.lemmas.Bool.{eq-eqb, cond-true}
+use Rattle.cd_types.specs.Format.{IsBytes}
+use Rattle.cd_types.specs.NumberLaw.{IsBytes-take}
+use Rattle.cd_outside.specs.Lines.{Traffic, LineCounts, NeverFell, took}
+use Rattle.cd_frames.specs.Message.{Message}
+use Rattle.cd_frames.specs.Reading.{Reading, overwritten, with_free, with_filled, front, gone_past, after_step, step_answer}
+use Rattle.cd_frames.specs.ReadingLaw.{overwritten_all}
+use Rattle.cd_frames.specs.Run.{Run, lent, filled, stepped, given_by}
+use Rattle.cd_frames.specs.Stream.{Front, gives, refuses, waits}
+use Rattle.cd_frames.specs.declared.frame.FrameFault.{FrameFault}
+use Rattle.cd_plain.specs.Arriving.{and_one, Heard}
+
+module _ (sid : ℕ) (given : List Message) (r : Reading) (room over : List ℕ) (before now : Traffic) (run : Run (before.taken sid) given r) where
+  pub took_none : now ≡ before → Run (now.taken sid) given (with_free r (overwritten room over))
+  took_none same = subst (λ (t : Traffic). Run (t.taken sid) given (with_free r (overwritten room over))) (sym same) (lent (overwritten room over) run)
+
+  pub took_more : (n : ℕ) (after : Reading) → IsBytes over → length over ≡ length room → now ≡ took sid (take n over) before → after ≡ with_filled (with_free r (overwritten room over)) n → Run (now.taken sid) given after
+  took_more n after bytes same is filled_is =
+      let free : overwritten room over ≡ over = overwritten_all room over same in
+      let more : Run (before.taken sid ++ take n over) given (with_filled (with_free r over) n) = filled n (IsBytes-take n over bytes) (lent over run) in
+      let taken : now.taken sid ≡ before.taken sid ++ take n over = ap (λ (t : Traffic). t.taken sid) is ∙ cond-true (eqb sid sid) (before.taken sid ++ take n over) (before.taken sid) (eq-eqb sid sid refl) in
+      subst (λ (reading : Reading). Run (now.taken sid) given reading) (sym (filled_is ∙ ap (λ (f : List ℕ). with_filled (with_free r f) n) free))
+      (subst (λ (s : List ℕ). Run s given (with_filled (with_free r over) n)) (sym taken) more)
+
+-- a step that finds no frame keeps what was given
+step_none : (reader : Reading) → given_by (front reader) ≡ [] → (stream : List ℕ) (given : List Message) → Run stream given reader → Run stream given (after_step reader)
+step_none reader none stream given run =
+    subst (λ (more : List Message). Run stream more (after_step reader)) (ap (λ (l : List Message). given ++ l) none ∙ append-nil given) (stepped run)
+
+-- what stands at the front, by what a step answers
+pub stepped_none : (reader : Reading) (f : Front) → f ≡ front reader → Ok false ≡ step_answer f → (stream : List ℕ) (given : List Message) → Run stream given reader → Run stream given (after_step reader)
+stepped_none reader (gives m size) is says stream given run = absurd cc
+stepped_none reader (refuses why) is says stream given run = absurd cc
+stepped_none reader waits is says stream given run = step_none reader (ap given_by (sym is)) stream given run
+
+pub stepped_bad : (reader : Reading) (f : Front) (why : FrameFault) → f ≡ front reader → Err why ≡ step_answer f → (stream : List ℕ) (given : List Message) → Run stream given reader → Run stream given (after_step reader)
+stepped_bad reader (gives m size) why is says stream given run = absurd cc
+stepped_bad reader (refuses other) why is says stream given run = step_none reader (ap given_by (sym is)) stream given run
+stepped_bad reader waits why is says stream given run = absurd cc
+
+pub stepped_one : (reader : Reading) (f : Front) → f ≡ front reader → Ok true ≡ step_answer f → (stream : List ℕ) (given : List Message) → Run stream given reader → Run stream (and_one given (after_step reader).given) (after_step reader)
+stepped_one reader (gives m size) is says stream given run =
+    let now : given_by (front reader) ≡ m ∷ [] = ap given_by (sym is) in
+    let last : (after_step reader).given ≡ Some m = ap (λ (f : Front). (gone_past reader f).given) (sym is) in
+    subst (λ (o : Option Message). Run stream (and_one given o) (after_step reader)) (sym last)
+    (subst (λ (more : List Message). Run stream (given ++ more) (after_step reader)) now (stepped run))
+stepped_one reader (refuses why) is says stream given run = absurd cc
+stepped_one reader waits is says stream given run = absurd cc
+
+-- and a reader that waits stays as it is
+pub waits_is : (f : Front) → Ok false ≡ step_answer f → f ≡ waits
+waits_is (gives m size) says = absurd cc
+waits_is (refuses why) says = absurd cc
+waits_is waits says = refl
+
+pub waits_same : (reader : Reading) (f : Front) → f ≡ front reader → Ok false ≡ step_answer f → (after_step reader).rest ≡ reader.rest
+waits_same reader f is says = ap (λ (g : Front). (gone_past reader g).rest) (sym is ∙ waits_is f says)
+
+-- one run of calls behind another
+pub heard_then : (first middle last : Traffic) → Heard first middle → Heard middle last → Heard first last
+heard_then first middle last one two = record { given = two.given ∙ one.given; sends = two.sends ∙ one.sends }
+
+pub fell_then : (first middle last : LineCounts) → NeverFell first middle → NeverFell middle last → NeverFell first last
+fell_then first middle last one two = record {
+  faults = λ session. omega (arith, one.faults session, two.faults session);
+  connects = omega (arith, one.connects, two.connects);
+  accepts = omega (arith, one.accepts, two.accepts);
+  ends = λ session. omega (arith, one.ends session, two.ends session);
+  nones = omega (arith, one.nones, two.nones);
+}
