@@ -1,3 +1,3 @@
 mod Coming
 mod Formed
-mod Sids
+mod Recorded

@@ -4,8 +4,6 @@ use Rattle.cd_frames.specs.Message.{Message}
 use Rattle.cd_legal.specs.Steps.{Reading}
 use Rattle.cd_moves.specs.Node.{Node, Deed, does, Answers}
 use Rattle.cd_moves.specs.Rows.{first_part, most_parts, row, row_end, row_trouble}
-use Rattle.cd_outside.specs.Moments.{Moments}
-use Rattle.cd_deeds.specs.Joint.{NodeImage, IsWithin}
 use Rattle.cd_deeds.specs.Stands.{Spot, WereDone}
 use Rattle.cd_deeds.specs.declared.fault.Fault.{Fault}
 use Rattle.cd_deeds.specs.declared.fault.Fault.TheVariants as fault
@@ -43,18 +41,6 @@ module _ (files_told lines_told : Type 0) (setting : Setting) (read : Reading) (
 
   abbrev pub GivingUpFailed : Fault → Spot → Spot → Type 0
   GivingUpFailed why before after = EndStopped row_trouble why before after ⊎ FailedInLoss why before after
-
-  -- a crash leaves what a first part of a rule of ending leaves, of each node that stood so
-  abbrev pub LeavesPart : (Node → ℕ → ℕ → List Deed) → Spot → NodeImage → Type 0
-  LeavesPart rule before image = (node : Node) → IsSo files_told setting read sid node before → IsWithin sid (rule node sid now) node image
-
-  pub record LeavesPartOfLoss (before : Spot) (image : NodeImage) : Type 0 where
-    pub at : Spot
-    pub stopped : EndStopped row_trouble fault.Line before at
-    pub left : LeavesPart row_end at image
-
-  abbrev pub MayLeaveThen : Spot → NodeImage → Type 0
-  MayLeaveThen before image = LeavesPart row_trouble before image ⊎ LeavesPartOfLoss before image
 
 -- A frame in a session of a node: whether files and lines tell, how the node is set up and reads texts, the session's number, the
 -- moment, the other sessions, and the frame.
@@ -117,21 +103,3 @@ pub record FailedTelling (it : Case) (why : Fault) (before after : Spot) : Type 
 
 abbrev pub HasFailed : Case → Fault → Spot → Spot → Type 0
 HasFailed it why before after = CutOff it why before after ⊎ (FailedLosing it why before after ⊎ FailedTelling it why before after)
-
--- what a crash leaves behind a fault
-pub record IsLeftLosing (it : Case) (before : Spot) (image : NodeImage) : Type 0 where
-  pub at : Spot
-  pub cut : CutOff it fault.Line before at
-  pub left : LeavesPart it.files_told it.lines_told it.setting it.read it.sid it.now row_end at image
-
-pub record IsLeftTelling (it : Case) (before : Spot) (image : NodeImage) : Type 0 where
-  pub at : Spot
-  pub cut : CutOff it fault.Files before at
-  pub left : MayLeaveThen it.files_told it.lines_told it.setting it.read it.sid it.now at image
-
--- At each moment a crash leaves of this node what a first part of the row leaves, for answers of this moment, or what is left
--- behind a fault.
-pub record MayLeaveOf (it : Case) (node : Node) (before : Spot) (first last : ℕ → NodeImage → Type 0) (from : ℕ) : Type 0 where
-  pub answers : Answers
-  pub moment : answers.now ≡ it.now
-  pub moments : Moments first last from (λ image. IsWithin it.sid (row node it.sid answers it.frame) node image ⊎ (IsLeftLosing it before image ⊎ IsLeftTelling it before image))

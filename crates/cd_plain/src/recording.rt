@@ -43,7 +43,7 @@ pub(crate) fn try_record<T: Texts, D: Disk>(
     ensures kept { result ≡ Ok true → (may_record T.read now registry.old.entries entry ≡ true) × (registry.new.entries ≡ entry ∷ registry.old.entries) }
     ensures refused { result ≡ Ok false → (may_record T.read now registry.old.entries entry ≡ false) × (registry.new ≡ registry.old) × (disk.new ≡ disk.old) × (beat.new ≡ beat.old) }
     ensures err { OnErr result (registry.new.entries ≡ registry.old.entries) }
-    ensures moments { D.told → Moments (LeftAt (D.state disk.old)) (LeftAt (D.state disk.new)) beat.old (IsWithOrWithout entry registry.old.entries) }
+    ensures moments { D.told → result ≢ Ok false → Moments (LeftAt (D.state disk.old)) (LeftAt (D.state disk.new)) beat.old (IsWithOrWithout entry registry.old.entries) }
 
     ensures legal { is_legal T.read registry.new.entries ≡ true }
     ensures on_time { latest registry.new.entries ≤ now }

@@ -1,22 +1,17 @@
 //! How a frame is handled, also where the files or the session fail in it.
-ghost use Rattle.std.specs.Prelude.{◌≡◌, ◌≢◌, ◌≤◌, ℕ, true, Err, OnOk, OnErr, IfOk, IfErr};
+ghost use Rattle.std.specs.Prelude.{◌≡◌, ◌≢◌, ◌≤◌, ℕ, true, Ok, Err, OnOk, IfOk, IfErr};
 ghost use Rattle.cd_outside.specs.Counts.{Rose};
 ghost use Rattle.cd_outside.specs.Disk.{last_of};
 ghost use Rattle.cd_outside.specs.Files.{files_last_of};
 ghost use Rattle.cd_outside.specs.Lines.{NeverFell};
-ghost use Rattle.cd_outside.specs.Moments.{Moments};
 ghost use Rattle.cd_frames.specs.Message.{message_of};
 ghost use Rattle.cd_journal.specs.Journal.{length_of};
 ghost use Rattle.cd_status.specs.Processes.{latest};
 ghost use Rattle.cd_legal.specs.Legal.{is_legal};
 ghost use Rattle.cd_legal.specs.Promises.{HavePriorities};
-ghost use Rattle.cd_moves.specs.Node.{Node};
-ghost use Rattle.cd_deeds.specs.Joint.{JointAt};
 ghost use Rattle.cd_deeds.specs.Registry.{IsRegistry};
 ghost use Rattle.cd_deeds.specs.Stands.{spot};
-ghost use Rattle.cd_node.specs.Going.{IsSo};
-ghost use Rattle.cd_node.specs.Sessions.{IsAt};
-ghost use Rattle.cd_plain.specs.Handling.{the_case, WasHandled, HasFailed, MayLeaveOf, GaveUp, GivingUpFailed, MayLeaveThen};
+ghost use Rattle.cd_plain.specs.Handling.{the_case, WasHandled, HasFailed, GaveUp, GivingUpFailed};
 
 use crate::ending::Ending;
 use cd_book::Texts;
@@ -60,8 +55,6 @@ fn give_up<T: Texts, R: Rules<T>, D: Disk, F: Files, L: Lines>(
     ensures failed { IfErr result (λ fault. GivingUpFailed F.told L.told (R.setting rules.now) T.read sid.number now fault
         (spot registry.old.entries (F.state files.old).shelf phase.old holders.old (L.traffic lines.old))
         (spot registry.new.entries (F.state files.new).shelf phase.new holders.new (L.traffic lines.new))) }
-    ensures moments { D.told → F.told → Moments (JointAt (D.state disk.old) (F.state files.old)) (JointAt (D.state disk.new) (F.state files.new)) beat.old (MayLeaveThen F.told L.told (R.setting rules.now) T.read sid.number now
-        (spot registry.old.entries (F.state files.old).shelf phase.old holders.old (L.traffic lines.old))) }
 
     // What stands then.
     ensures legal { is_legal T.read registry.new.entries ≡ true }
@@ -137,9 +130,6 @@ pub(crate) fn take_frame<T: Texts, R: Rules<T>, D: Disk, F: Files, L: Lines>(
         (spot registry.old.entries (F.state files.old).shelf phase.old holders.old (L.traffic lines.old))
         (spot registry.new.entries (F.state files.new).shelf phase.new holders.new (L.traffic lines.new))) }
 
-    // What a crash leaves at each moment.
-    ensures moments { D.told → F.told → (node : Node) → IsAt F.told (R.setting rules.now) T.read sid.number others.now node (spot registry.old.entries (F.state files.old).shelf phase.old holders.old (L.traffic lines.old))
-        → MayLeaveOf (the_case F.told L.told (R.setting rules.now) T.read sid.number now others.now (message_of frame.now)) node (spot registry.old.entries (F.state files.old).shelf phase.old holders.old (L.traffic lines.old)) (JointAt (D.state disk.old) (F.state files.old)) (JointAt (D.state disk.new) (F.state files.new)) beat.old }
 
     // What stands then.
     ensures legal { is_legal T.read registry.new.entries ≡ true }
