@@ -18,6 +18,7 @@ use Rattle.cd_status.specs.Processes.{own_home}
 use Rattle.cd_status.specs.Status.{outcome, mark}
 use Rattle.cd_legal.specs.Legal.{is_legal}
 use Rattle.cd_legal.specs.Steps.{Reading, what_at, is_such, pnode_keeps}
+use Rattle.cd_moves.specs.Sending.{interval_of}
 use Rattle.cd_world.specs.World.{At, A, B, across, Note, Sized, Read, Began, Landed, Dropped, Wrote, Half, World, Unless}
 
 -- Journals.
@@ -72,6 +73,41 @@ EndsAsKept read other journal n place rc why bytes =
 pub record HaveResults (w : World) : Type 0 where
   pub a : EachEnded (EndsAsKept w.a.node.desk.config.read (journal_of w.b)) (journal_of w.a)
   pub b : EachEnded (EndsAsKept w.b.node.desk.config.read (journal_of w.a)) (journal_of w.b)
+
+-- Statements.
+
+-- a receiving has the name, the disposition and the interval of a COPY
+pub record IsAs (step : CopyStep) (r : Receiving) : Type 0 where
+  pub name : r.name ≡ step.to
+  pub disp : r.disp ≡ step.disp
+  pub interval : r.interval ≡ interval_of step.ckpt
+
+-- it is as the COPY at its place in the Process of this journal: a push, or a pull
+pub record IsStated (read : Reading) (journal : List Entry) (push : Bool) (r : Receiving) : Type 0 where
+  pub step : CopyStep
+  pub stands : what_at read journal r.key.number r.key.place ≡ Some (what.Copy step)
+  pub way : step.push ≡ push
+  pub same : IsAs step r
+
+-- a step of a Process of the node with this journal
+abbrev pub IsStepOf : List Entry → Key → Type 0
+IsStepOf journal key = own_home journal ≡ Some (key.pnode, key.home)
+
+-- what a node receives for a Process of its own is as a pull of it, and what it receives for one of the other node as a push
+abbrev pub AsStated : Half → Half → Receiving → Type 0
+AsStated here there r =
+    (IsStepOf (journal_of here) r.key → IsStated here.node.desk.config.read (journal_of here) false r)
+    × (IsStepOf (journal_of there) r.key → IsStated there.node.desk.config.read (journal_of there) true r)
+
+-- each Receiving of a journal
+abbrev pub EachReceiving : (Receiving → Type 0) → List Entry → Type 0
+EachReceiving P [] = Unit {0}
+EachReceiving P (entry.Receiving r ∷ journal) = P r × EachReceiving P journal
+EachReceiving P (e ∷ journal) = EachReceiving P journal
+
+pub record HaveStatements (w : World) : Type 0 where
+  pub a : EachReceiving (AsStated w.a w.b) (journal_of w.a)
+  pub b : EachReceiving (AsStated w.b w.a) (journal_of w.b)
 
 -- Landings.
 

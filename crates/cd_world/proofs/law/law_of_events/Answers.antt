@@ -1,4 +1,4 @@
-use Rattle.cd_world.specs.AgreedLaw.{events_results, events_land}
+use Rattle.cd_world.specs.AgreedLaw.{events_results, events_land, events_statements}
 use Rattle.cd_world.specs.GrownLaw.{events_legal, events_extend}
 use Rattle.cd_world.specs.LeftLaw.{events_files, events_left}
 use Rattle.cd_world.specs.WholeLaw.{events_sources}
@@ -9,6 +9,9 @@ returns-clause-legal c = events_legal
 
 pub returns-clause-extends : goal.returns-clause-extends
 returns-clause-extends c = events_extend
+
+pub returns-clause-statements : goal.returns-clause-statements
+returns-clause-statements c = events_statements
 
 pub returns-clause-results : goal.returns-clause-results
 returns-clause-results c = events_results
