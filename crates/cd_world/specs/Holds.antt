@@ -143,6 +143,33 @@ pub record HaveLanded (w : World) : Type 0 where
   pub a : EachEnded (LandsOnce A w.a.node.desk.config.read w.notes) (journal_of w.a)
   pub b : EachEnded (LandsOnce B w.b.node.desk.config.read w.notes) (journal_of w.b)
 
+-- the landings of a step at a node as they were noted, the newest first
+abbrev pub noted_landings : At → Key → List Note → List Note
+noted_landings x key [] = []
+noted_landings x key (Landed y r got ∷ notes) =
+    if is_at x y && same_key key r.key then Landed y r got ∷ noted_landings x key notes else noted_landings x key notes
+noted_landings x key (Sized y name size ∷ notes) = noted_landings x key notes
+noted_landings x key (Read y step at bytes ∷ notes) = noted_landings x key notes
+noted_landings x key (Began y r ∷ notes) = noted_landings x key notes
+noted_landings x key (Dropped y r ∷ notes) = noted_landings x key notes
+noted_landings x key (Wrote y name bytes ∷ notes) = noted_landings x key notes
+
+-- it is one, of a receiving as this COPY
+pub record IsOneAs (x : At) (step : CopyStep) (noted : List Note) : Type 0 where
+  pub r : Receiving
+  pub got : List ℕ
+  pub is : noted ≡ Landed x r got ∷ []
+  pub same : IsAs step r
+
+-- a COPY that ended with 0 landed once where it was received, with the name, the disposition and the interval of its statement
+abbrev pub LandsAsStated : At → Reading → List Note → List Entry → ℕ → ℕ → ℕ → Cause → ℕ → Type 0
+LandsAsStated x read notes journal n place rc why bytes =
+    (key : Key) (step : CopyStep) → IsOwnStep journal n place key → what_at read journal n place ≡ Some (what.Copy step) → rc ≡ 0 → IsOneAs (keeper x step) step (noted_landings (keeper x step) key notes)
+
+pub record HaveCopied (w : World) : Type 0 where
+  pub a : EachEnded (LandsAsStated A w.a.node.desk.config.read w.notes) (journal_of w.a)
+  pub b : EachEnded (LandsAsStated B w.b.node.desk.config.read w.notes) (journal_of w.b)
+
 -- Sources.
 
 -- these bytes stand in a source at an offset

@@ -2,7 +2,7 @@ ghost use Rattle.std.specs.Prelude.{◌≡◌, ℕ, ◌+◌, ◌≤◌, List, �
 ghost use Rattle.cd_outside.specs.Content.{resized, overwritten};
 ghost use Rattle.cd_outside.specs.Shelf.{FileDoubt, FileChange, IsFileImage, settled_file, file_after, file_doubt_within};
 ghost use Rattle.cd_world.specs.Fronts.{BeginsWith, IsGuarded, KeepsFront};
-ghost use Rattle.cd_world.specs.Holds.{AreLegal, Extend, HaveResults, HaveLanded, AreSources, HaveFiles, AreLeft, HaveStatements};
+ghost use Rattle.cd_world.specs.Holds.{AreLegal, Extend, HaveResults, HaveLanded, AreSources, HaveFiles, AreLeft, HaveStatements, HaveCopied};
 ghost use Rattle.cd_world.specs.World.{World, Event, IsFirst, ArePossible, after};
 
 /// Two nodes with different names and homes, whose journals have their Home alone and between which there is no
@@ -25,6 +25,7 @@ pub fn law_of_events()
     ensures statements { (w : World) (events : List Event) → IsFirst w → ArePossible w events → HaveStatements (after w events) }
     ensures results { (w : World) (events : List Event) → IsFirst w → ArePossible w events → HaveResults (after w events) }
     ensures landings { (w : World) (events : List Event) → IsFirst w → ArePossible w events → HaveLanded (after w events) }
+    ensures copies { (w : World) (events : List Event) → IsFirst w → ArePossible w events → HaveCopied (after w events) }
     ensures sources { (w : World) (events : List Event) → IsFirst w → ArePossible w events → AreSources (after w events).notes }
     ensures files { (w : World) (events : List Event) → IsFirst w → ArePossible w events → HaveFiles (after w events) }
     ensures left { (w : World) (events : List Event) → IsFirst w → ArePossible w events → AreLeft w (after w events) }

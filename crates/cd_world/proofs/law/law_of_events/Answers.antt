@@ -1,4 +1,4 @@
-use Rattle.cd_world.specs.AgreedLaw.{events_results, events_land, events_statements}
+use Rattle.cd_world.specs.AgreedLaw.{events_results, events_land, events_statements, events_copied}
 use Rattle.cd_world.specs.GrownLaw.{events_legal, events_extend}
 use Rattle.cd_world.specs.LeftLaw.{events_files, events_left}
 use Rattle.cd_world.specs.WholeLaw.{events_sources}
@@ -18,6 +18,9 @@ returns-clause-results c = events_results
 
 pub returns-clause-landings : goal.returns-clause-landings
 returns-clause-landings c = events_land
+
+pub returns-clause-copies : goal.returns-clause-copies
+returns-clause-copies c = events_copied
 
 pub returns-clause-sources : goal.returns-clause-sources
 returns-clause-sources c = events_sources
