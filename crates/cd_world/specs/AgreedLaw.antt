@@ -14,9 +14,7 @@ use Rattle.cd_types.specs.declared.rows.Outcomes.{Outcomes}
 use Rattle.cd_types.specs.declared.rows.Receiving.{Receiving}
 use Rattle.cd_entries.specs.declared.entry.Entry.{Entry}
 use Rattle.cd_entries.specs.declared.entry.Entry.TheVariants as entry
-use Rattle.cd_ast.specs.declared.process.CopyStep.{CopyStep}
 use Rattle.cd_ast.specs.declared.process.What.{What}
-use Rattle.cd_ast.specs.declared.process.What.TheVariants as what
 use Rattle.cd_outside.specs.Shelf as shelves
 use Rattle.cd_frames.specs.Message as message
 use Rattle.cd_frames.specs.Message.{Message}
@@ -35,7 +33,7 @@ use Rattle.cd_moves.specs.Node.{Config, Desk, Sessions, Node, Deed, Keep, Touch,
 use Rattle.cd_moves.specs.Rows.{row_choose, row_trouble}
 use Rattle.cd_moves.specs.RowsLaw.{same_config, part_extends}
 use Rattle.cd_world.specs.World.{At, A, B, across, Note, Sized, Read, Began, Landed, Dropped, Wrote, Half, World, seen_from, landing_of, dropping_of, noted_by, read_for, is_gone, at_session, behind_them, world_did, world_does, Happening, Choice, Call, Frame, End, Task, nothing, opens, with_session, called, answers_now, came, ended, task_of, task, world_after, world_within, deeds_left, Cut, cut_off, with_shelf, world_faulted, down, world_stopped, no_sessions, marked, world_started, world_lost, world_written, submission_of, world_submitted, Event, Does, Fails, Stops, Starts, Loses, Writes, Later, Submits, later, happens, after, IsNew, IsFirst, ArePossible}
-use Rattle.cd_world.specs.Holds.{journal_of, IsOutcome, IsOwnStep, EachEnded, EndsAsKept, HaveResults, IsAs, IsStated, IsStepOf, AsStated, EachReceiving, HaveStatements, is_at, landings, IsOne, keeper, LandsOnce, HaveLanded, noted_landings, IsOneAs, LandsAsStated, HaveCopied}
+use Rattle.cd_world.specs.Holds.{journal_of, IsOutcome, IsOwnStep, EachEnded, EndsAsKept, HaveResults, IsStated, EachReceiving, is_at, landings, IsOne, LandsOnce, HaveLanded}
 use Rattle.cd_world.specs.DeedsLaw.{Own, Tells, AllTold, PhaseOk, EndedBy, IsHeard, KeepOk, AllFit, row_ok, choose_ok, close_ok, trouble_ok}
 use Rattle.cd_world.specs.GrownLaw.{does_node, BothGrown, BothSound, within_grown, whole_grown, trouble_grown, legal_more, happens_grown, after_grown, first_sound}
 use Rattle.cd_world.specs.KeptLaw.{outcome_kept, statement_stays, receiving_stated}
@@ -368,13 +366,13 @@ each_more P Q more (entry.Ended n place rc why bytes moment ∷ journal) all = (
 each_more P Q more (entry.Home name home ∷ journal) all = each_more P Q more journal all
 each_more P Q more (e ∷ journal) all = each_more P Q more journal all
 
-each_receiving_more : (P Q : Receiving → Type 0) → ((r : Receiving) → P r → Q r) → (journal : List Entry) → EachReceiving P journal → EachReceiving Q journal
+pub each_receiving_more : (P Q : Receiving → Type 0) → ((r : Receiving) → P r → Q r) → (journal : List Entry) → EachReceiving P journal → EachReceiving Q journal
 each_receiving_more P Q more [] all = tt
 each_receiving_more P Q more (entry.Receiving r ∷ journal) all = (more r all.0, each_receiving_more P Q more journal all.1)
 each_receiving_more P Q more (entry.Home name home ∷ journal) all = each_receiving_more P Q more journal all
 each_receiving_more P Q more (e ∷ journal) all = each_receiving_more P Q more journal all
 
-each_landed_more : (x : At) (P Q : Receiving → Type 0) → ((r : Receiving) → P r → Q r) → (notes : List Note) → EachLanded x P notes → EachLanded x Q notes
+pub each_landed_more : (x : At) (P Q : Receiving → Type 0) → ((r : Receiving) → P r → Q r) → (notes : List Note) → EachLanded x P notes → EachLanded x Q notes
 each_landed_more x P Q more [] all = tt
 each_landed_more x P Q more (Landed y r got ∷ notes) all = (λ here. more r (all.0 here), each_landed_more x P Q more notes all.1)
 each_landed_more x P Q more (Sized y name size ∷ notes) all = each_landed_more x P Q more notes all
@@ -933,7 +931,7 @@ unfolding status.status
 fresh_first name home key = refl
 
 -- a node that has recorded its home alone
-abbrev new_own : List ℕ → ℕ → Half → Own
+abbrev pub new_own : List ℕ → ℕ → Half → Own
 new_own name home half = record { home = Some (name, home); read = half.node.desk.config.read }
 
 new_agreed : (x : At) (name : List ℕ) (home : ℕ) (half other : Half) (notes : List Note) → notes ≡ [] → IsNew name home half → Agreed x (new_own name home half) half other notes
@@ -1036,170 +1034,4 @@ events_land w events first possible =
     record {
       a = all_land A v.a.node.desk.config.read (journal_of v.a) (journal_of v.b) v.notes h.a.landed h.b.landed (journal_of v.a) grown.a.sound.legal (λ key o is. is) h.a.ended;
       b = all_land B v.b.node.desk.config.read (journal_of v.b) (journal_of v.a) v.notes h.b.landed h.a.landed (journal_of v.b) grown.b.sound.legal (λ key o is. is) h.b.ended;
-    }
-
--- The statements.
-
-module _ (x : At) (own own2 : Own) (a b : Half) (notes : List Note) (h : Agreed x own a b notes) (home2 : own_home (journal_of b) ≡ own2.home) (apart : own.home ≡ own2.home → ⊥) where
-  as_stated : (r : Receiving) → StatedBy own (journal_of a) (Of b) r → AsStated a b r
-  as_stated r by = (here, there_too) where
-    here : IsStepOf (journal_of a) r.key → IsStated a.node.desk.config.read (journal_of a) false r
-    here is = subst (λ (read : Reading). IsStated read (journal_of a) false r) (sym h.stated.reads) (by.mine (sym h.home ∙ is))
-
-    there_too : IsStepOf (journal_of b) r.key → IsStated b.node.desk.config.read (journal_of b) true r
-    there_too is = elim by.theirs [
-      | inl own_key ↦ absurd (apart (own_key ∙ sym is ∙ home2))
-      | inr told ↦ record { step = told.step; stands = told.stands; way = told.push; same = record { name = told.name_is; disp = told.disp_is; interval = told.interval_is } }
-    ]
-
-  landed_as_stated : EachLanded x (AsStated a b) notes
-  landed_as_stated = each_landed_more x (StatedBy own (journal_of a) (Of b)) (AsStated a b) as_stated notes h.stated.noted
-
-  all_as_stated : EachReceiving (AsStated a b) (journal_of a)
-  all_as_stated = each_receiving_more (StatedBy own (journal_of a) (Of b)) (AsStated a b) as_stated (journal_of a) h.stated.each
-
-names_apart : (name name2 : List ℕ) (home home2 : ℕ) → (name ≡ name2 → ⊥) → ◌≡◌ {A = Option (List ℕ × ℕ)} (Some (name, home)) (Some (name2, home2)) → ⊥
-unfolding named
-names_apart name name2 home home2 apart is = apart (ap (λ (o : Option (List ℕ × ℕ)). (named o).0) is)
-
-pub events_statements : (w : World) (events : List Event) → IsFirst w → ArePossible w events → HaveStatements (after w events)
-events_statements w events first possible =
-    let own_a : Own = new_own first.name_a first.home_a w.a in
-    let own_b : Own = new_own first.name_b first.home_b w.b in
-    let v : World = after w events in
-    let h : BothAgreed A (new_own first.name_a first.home_a w.a) (new_own first.name_b first.home_b w.b) (after w events) = after_agreed _ _ w events (first_agreed w first) (first_sound w first) in
-    record {
-      a = all_as_stated A own_a own_b v.a v.b v.notes h.a h.b.home (names_apart first.name_a first.name_b first.home_a first.home_b first.names);
-      b = all_as_stated B own_b own_a v.b v.a v.notes h.b h.a.home (names_apart first.name_b first.name_a first.home_b first.home_a (λ is. first.names (sym is)));
-    }
-
--- Copies as they are stated.
-
-at_same : (x y : At) → is_at x y ≡ true → y ≡ x
-at_same A A here = refl
-at_same A B here = absurd (false≢true here)
-at_same B A here = absurd (false≢true here)
-at_same B B here = refl
-
--- the one landing of a step
-record OneLanding (x : At) (P : Receiving → Type 0) (key : Key) (noted : List Note) : Type 0 where
-  r : Receiving
-  got : List ℕ
-  is : noted ≡ Landed x r got ∷ []
-  of_step : r.key ≡ key
-  good : P r
-
-module _ (x : At) (P : Receiving → Type 0) (key : Key) where
-  none_noted : (notes : List Note) → landings x key notes ≡ [] → noted_landings x key notes ≡ []
-  none_noted [] none = refl
-  none_noted (Landed y r got ∷ notes) none = by_test (is_at x y && same_key key r.key) (none_noted notes) none where
-    by_test : (b : Bool) → (landings x key notes ≡ [] → noted_landings x key notes ≡ []) → cond b (got ∷ landings x key notes) (landings x key notes) ≡ [] → cond b (Landed y r got ∷ noted_landings x key notes) (noted_landings x key notes) ≡ []
-    by_test true behind some = absurd cc
-    by_test false behind rest = behind rest
-  none_noted (Sized y name size ∷ notes) none = none_noted notes none
-  none_noted (Read y step at bytes ∷ notes) none = none_noted notes none
-  none_noted (Began y r ∷ notes) none = none_noted notes none
-  none_noted (Dropped y r ∷ notes) none = none_noted notes none
-  none_noted (Wrote y name bytes ∷ notes) none = none_noted notes none
-
-  one_noted : (notes : List Note) (got : List ℕ) → EachLanded x P notes → landings x key notes ≡ got ∷ [] → OneLanding x P key (noted_landings x key notes)
-  one_noted [] got all one = absurd cc
-  one_noted (Landed y r new ∷ notes) got all one = by_test (is_at x y && same_key key r.key) refl (one_noted notes got all.1) one where
-    by_test : (b : Bool) → (is_at x y && same_key key r.key) ≡ b → (landings x key notes ≡ got ∷ [] → OneLanding x P key (noted_landings x key notes))
-        → cond b (new ∷ landings x key notes) (landings x key notes) ≡ got ∷ []
-        → OneLanding x P key (cond b (Landed y r new ∷ noted_landings x key notes) (noted_landings x key notes))
-    by_test true test behind first =
-        let both = and_parts (is_at x y) (same_key key r.key) test in
-        let rest : landings x key notes ≡ [] = cc in
-        record {
-          r = r;
-          got = new;
-          is = ap (λ (more : List Note). Landed y r new ∷ more) (none_noted notes rest) ∙ ap (λ (z : At). Landed z r new ∷ []) (at_same x y both.0);
-          of_step = sym (same_key-true key r.key both.1);
-          good = all.0 both.0;
-        }
-    by_test false test behind rest = behind rest
-  one_noted (Sized y name size ∷ notes) got all one = one_noted notes got all one
-  one_noted (Read y step at bytes ∷ notes) got all one = one_noted notes got all one
-  one_noted (Began y r ∷ notes) got all one = one_noted notes got all one
-  one_noted (Dropped y r ∷ notes) got all one = one_noted notes got all one
-  one_noted (Wrote y name bytes ∷ notes) got all one = one_noted notes got all one
-
--- a home stays
-home_stays : (read : Reading) (e : Entry) (journal : List Entry) (known : List ℕ × ℕ) → is_legal read (e ∷ journal) ≡ true → own_home journal ≡ Some known → own_home (e ∷ journal) ≡ Some known
-unfolding own_home
-home_stays read (entry.Home name home) [] known legal is = absurd cc
-home_stays read (entry.Home name home) (before ∷ journal) known legal is = absurd (false≢true (follows read (entry.Home name home) (before ∷ journal) legal))
-home_stays read e journal known legal is = is
-
-module _ (x : At) (a b : Half) (notes : List Note) (here : EachLanded x (AsStated a b) notes) (there_too : EachLanded (across x) (AsStated b a) notes) where
-  abbrev ReadsAs : List Entry → Type 0
-  ReadsAs journal = (n place : ℕ) (s : What) → what_at a.node.desk.config.read journal n place ≡ Some s → what_at a.node.desk.config.read (journal_of a) n place ≡ Some s
-
-  abbrev HomeAs : List Entry → Type 0
-  HomeAs journal = (known : List ℕ × ℕ) → own_home journal ≡ Some known → own_home (journal_of a) ≡ Some known
-
-  -- the statement of a step is one
-  as_copy : (push : Bool) (key : Key) (step : CopyStep) (r : Receiving) → what_at a.node.desk.config.read (journal_of a) key.number key.place ≡ Some (what.Copy step) → r.key ≡ key
-      → IsStated a.node.desk.config.read (journal_of a) push r → IsAs step r
-  as_copy push key step r copy own s =
-      let known : what_at a.node.desk.config.read (journal_of a) key.number key.place ≡ Some (what.Copy s.step) =
-      subst (λ (k : Key). what_at a.node.desk.config.read (journal_of a) k.number k.place ≡ Some (what.Copy s.step)) own s.stands in
-      let same : s.step ≡ step = cc in
-      subst (λ (t : CopyStep). IsAs t r) same s.same
-
-  one_copied : (journal : List Entry) (n place rc : ℕ) (why : Cause) (bytes : ℕ) → ReadsAs journal → HomeAs journal → LandsOnce x a.node.desk.config.read notes journal n place rc why bytes
-      → LandsAsStated x a.node.desk.config.read notes journal n place rc why bytes
-  one_copied journal n place rc why bytes reads homes once key step is copy code = by_way step.push refl where
-    home_is : own_home (journal_of a) ≡ Some (key.pnode, key.home)
-    home_is = homes (key.pnode, key.home) is.home
-
-    copy_is : what_at a.node.desk.config.read (journal_of a) key.number key.place ≡ Some (what.Copy step)
-    copy_is =
-        subst (λ (m : ℕ). what_at a.node.desk.config.read (journal_of a) m key.place ≡ Some (what.Copy step)) (sym is.number)
-        (subst (λ (m : ℕ). what_at a.node.desk.config.read (journal_of a) n m ≡ Some (what.Copy step)) (sym is.step) (reads n place (what.Copy step) copy))
-
-    by_way : (push : Bool) → step.push ≡ push → IsOneAs (keeper x step) step (noted_landings (keeper x step) key notes)
-    by_way true push =
-        let one : IsOne (landings (across x) key notes) = subst (λ (p : Bool). IsOne (landings (cond p (across x) x) key notes)) push (once key step is copy code) in
-        let found = one_noted (across x) (AsStated b a) key notes one.got there_too one.is in
-        let stated = found.good.1 (subst (λ (k : Key). own_home (journal_of a) ≡ Some (k.pnode, k.home)) (sym found.of_step) home_is) in
-        subst (λ (p : Bool). IsOneAs (cond p (across x) x) step (noted_landings (cond p (across x) x) key notes)) (sym push)
-        (record { r = found.r; got = found.got; is = found.is; same = as_copy true key step found.r copy_is found.of_step stated })
-    by_way false pull =
-        let one : IsOne (landings x key notes) = subst (λ (p : Bool). IsOne (landings (cond p (across x) x) key notes)) pull (once key step is copy code) in
-        let found = one_noted x (AsStated a b) key notes one.got here one.is in
-        let stated = found.good.0 (subst (λ (k : Key). own_home (journal_of a) ≡ Some (k.pnode, k.home)) (sym found.of_step) home_is) in
-        subst (λ (p : Bool). IsOneAs (cond p (across x) x) step (noted_landings (cond p (across x) x) key notes)) (sym pull)
-        (record { r = found.r; got = found.got; is = found.is; same = as_copy false key step found.r copy_is found.of_step stated })
-
-  all_copied : (journal : List Entry) → is_legal a.node.desk.config.read journal ≡ true → ReadsAs journal → HomeAs journal → EachEnded (LandsOnce x a.node.desk.config.read notes) journal
-      → EachEnded (LandsAsStated x a.node.desk.config.read notes) journal
-  all_copied [] legal reads homes all = tt
-  all_copied (e ∷ journal) legal reads homes all =
-      let before : is_legal a.node.desk.config.read journal ≡ true = (legal_parts a.node.desk.config.read e journal legal).0 in
-      let reads2 : ReadsAs journal = λ n place s is. reads n place s (statement_stays a.node.desk.config.read e journal n place s legal is) in
-      let homes2 : HomeAs journal = λ known is. homes known (home_stays a.node.desk.config.read e journal known legal is) in
-      with_entry e reads2 homes2 all (λ rest. all_copied journal before reads2 homes2 rest)
-    where
-      with_entry : (f : Entry) → ReadsAs journal → HomeAs journal → EachEnded (LandsOnce x a.node.desk.config.read notes) (f ∷ journal)
-          → (EachEnded (LandsOnce x a.node.desk.config.read notes) journal → EachEnded (LandsAsStated x a.node.desk.config.read notes) journal)
-          → EachEnded (LandsAsStated x a.node.desk.config.read notes) (f ∷ journal)
-      with_entry (entry.Ended n place rc why bytes moment) reads2 homes2 all2 more = (one_copied journal n place rc why bytes reads2 homes2 all2.0, more all2.1)
-      with_entry (entry.Home name home) reads2 homes2 all2 more = more all2
-      with_entry f reads2 homes2 all2 more = more all2
-
-pub events_copied : (w : World) (events : List Event) → IsFirst w → ArePossible w events → HaveCopied (after w events)
-events_copied w events first possible =
-    let own_a : Own = new_own first.name_a first.home_a w.a in
-    let own_b : Own = new_own first.name_b first.home_b w.b in
-    let v : World = after w events in
-    let h : BothAgreed A (new_own first.name_a first.home_a w.a) (new_own first.name_b first.home_b w.b) (after w events) = after_agreed _ _ w events (first_agreed w first) (first_sound w first) in
-    let grown : BothGrown w (after w events) = after_grown w events (first_sound w first) in
-    let once : HaveLanded (after w events) = events_land w events first possible in
-    let at_a : EachLanded A (AsStated v.a v.b) v.notes = landed_as_stated A own_a own_b v.a v.b v.notes h.a h.b.home (names_apart first.name_a first.name_b first.home_a first.home_b first.names) in
-    let at_b : EachLanded B (AsStated v.b v.a) v.notes = landed_as_stated B own_b own_a v.b v.a v.notes h.b h.a.home (names_apart first.name_b first.name_a first.home_b first.home_a (λ is. first.names (sym is))) in
-    record {
-      a = all_copied A v.a v.b v.notes at_a at_b (journal_of v.a) grown.a.sound.legal (λ n place s is. is) (λ known is. is) once.a;
-      b = all_copied B v.b v.a v.notes at_b at_a (journal_of v.b) grown.b.sound.legal (λ n place s is. is) (λ known is. is) once.b;
     }
