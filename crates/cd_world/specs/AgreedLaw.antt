@@ -1,5 +1,5 @@
 -- What two nodes have agreed on: results on the way are the sender's outcomes, and each Ended is its keeper's outcome. What
--- landed has an outcome, and landed once.
+-- landed has an outcome, and landed once. Pushes on the way are as their statements, and so is what is received.
 use Rattle.std.proofs.Common.{◌≡◌, ℕ, zero, suc, ◌+◌, Bool, true, false, cond, ◌&&◌, eqb, ltb, List, [], ◌∷◌, ◌++◌, length, take, drop, Option, Some, None, inl, inr, refl, sym, ◌∙◌, ap, subst}
 use Rattle.std.specs.Prelude.{not}
 use Rattle.std.proofs.lemmas.List.{append-nil, take-append-drop}
@@ -34,7 +34,7 @@ use Rattle.cd_moves.specs.Rows.{row_choose, row_trouble}
 use Rattle.cd_moves.specs.RowsLaw.{same_config, part_extends}
 use Rattle.cd_world.specs.World.{At, A, B, across, Note, Sized, Read, Began, Landed, Dropped, Wrote, Half, World, seen_from, landing_of, dropping_of, noted_by, read_for, is_gone, at_session, behind_them, world_did, world_does, Happening, Choice, Call, Frame, End, Task, nothing, opens, with_session, called, answers_now, came, ended, task_of, task, world_after, world_within, deeds_left, Cut, cut_off, with_shelf, world_faulted, down, world_stopped, no_sessions, marked, world_started, world_lost, world_written, submission_of, world_submitted, Event, Does, Fails, Stops, Starts, Loses, Writes, Later, Submits, later, happens, after, IsNew, IsFirst, ArePossible}
 use Rattle.cd_world.specs.Holds.{journal_of, IsOutcome, IsOwnStep, EachEnded, EndsAsKept, HaveResults, IsStated, EachReceiving, is_at, landings, IsOne, LandsOnce, HaveLanded}
-use Rattle.cd_world.specs.DeedsLaw.{Own, Tells, AllTold, PhaseOk, EndedBy, IsHeard, KeepOk, AllFit, row_ok, choose_ok, close_ok, trouble_ok}
+use Rattle.cd_world.specs.DeedsLaw.{Own, Tells, AllTell, PhaseOk, EndedBy, IsHeard, KeepOk, AllFit, row_ok, choose_ok, close_ok, trouble_ok}
 use Rattle.cd_world.specs.GrownLaw.{does_node, BothGrown, BothSound, within_grown, whole_grown, trouble_grown, legal_more, happens_grown, after_grown, first_sound}
 use Rattle.cd_world.specs.KeptLaw.{outcome_kept, statement_stays, receiving_stated}
 
@@ -67,7 +67,7 @@ abbrev pub Of : Half → Message → Type 0
 Of half m = Tells half.node.desk.config.read (journal_of half) m
 
 abbrev pub AllOf : Half → List Message → Type 0
-AllOf half frames = AllTold half.node.desk.config.read (journal_of half) frames
+AllOf half frames = AllTell half.node.desk.config.read (journal_of half) frames
 
 -- a receiving is as a statement of this node, or as the other node announced it
 pub record StatedBy (own : Own) (journal : List Entry) (Says : Message → Type 0) (r : Receiving) : Type 0 where
@@ -392,7 +392,7 @@ stated_more own journal journal2 Says Says2 stays more r by = record {
   ];
 }
 
-told_more : (read read2 : Reading) (journal journal2 : List Entry) → ((m : Message) → Tells read journal m → Tells read2 journal2 m) → (frames : List Message) → AllTold read journal frames → AllTold read2 journal2 frames
+told_more : (read read2 : Reading) (journal journal2 : List Entry) → ((m : Message) → Tells read journal m → Tells read2 journal2 m) → (frames : List Message) → AllTell read journal frames → AllTell read2 journal2 frames
 told_more read read2 journal journal2 more [] h = tt
 told_more read read2 journal journal2 more (m ∷ frames) h = (more m h.0, told_more read read2 journal journal2 more frames h.1)
 
@@ -438,14 +438,14 @@ noted x own a b notes notes2 same more h = record {
 pub either_at : {T : Type 0} (P : T → Type 0) (sid : ℕ) (value : T) (others : ℕ → T) → P value → ((n : ℕ) → P (others n)) → (n : ℕ) → P (at_session sid value others n)
 either_at P sid value others one rest n = elim (eqb sid n) as (λ b. P (cond b value (others n))) [ true ↦ one | false ↦ rest n ]
 
-all_told_append : (read : Reading) (journal : List Entry) (first second : List Message) → AllTold read journal first → AllTold read journal second → AllTold read journal (first ++ second)
-all_told_append read journal [] second one two = two
-all_told_append read journal (m ∷ first) second one two = (one.0, all_told_append read journal first second one.1 two)
+all_tell_append : (read : Reading) (journal : List Entry) (first second : List Message) → AllTell read journal first → AllTell read journal second → AllTell read journal (first ++ second)
+all_tell_append read journal [] second one two = two
+all_tell_append read journal (m ∷ first) second one two = (one.0, all_tell_append read journal first second one.1 two)
 
-all_told_take : (read : Reading) (journal : List Entry) (k : ℕ) (frames : List Message) → AllTold read journal frames → AllTold read journal (take k frames)
-all_told_take read journal zero frames h = tt
-all_told_take read journal (suc k) [] h = tt
-all_told_take read journal (suc k) (m ∷ frames) h = (h.0, all_told_take read journal k frames h.1)
+all_tell_take : (read : Reading) (journal : List Entry) (k : ℕ) (frames : List Message) → AllTell read journal frames → AllTell read journal (take k frames)
+all_tell_take read journal zero frames h = tt
+all_tell_take read journal (suc k) [] h = tt
+all_tell_take read journal (suc k) (m ∷ frames) h = (h.0, all_tell_take read journal k frames h.1)
 
 -- Statements.
 
@@ -623,7 +623,7 @@ module _ (x : At) (own_a own_b : Own) (sid : ℕ) where
     b = beside (across x) own_b w.b w.a (world_did x sid (Begin key phase) w).a w.notes (λ m is. is) h.b;
   }
 
-  go_agreed : (w : World) (phase : Phase) (frames : List Message) → BothAgreed x own_a own_b w → PhaseOk own_a (Of w.b) phase → AllTold own_a.read (journal_of w.a) frames
+  go_agreed : (w : World) (phase : Phase) (frames : List Message) → BothAgreed x own_a own_b w → PhaseOk own_a (Of w.b) phase → AllTell own_a.read (journal_of w.a) frames
       → BothAgreed x own_a own_b (world_did x sid (Go phase frames) w)
   go_agreed w phase frames h ok sent_ok = record {
     a = record {
@@ -653,8 +653,8 @@ module _ (x : At) (own_a own_b : Own) (sid : ℕ) where
 
     heard_b : (b : Bool) → AllOf w.a (behind_them b (w.b.way sid) frames)
     heard_b true = h.b.heard sid
-    heard_b false = all_told_append w.a.node.desk.config.read (journal_of w.a) (w.b.way sid) frames (h.b.heard sid)
-        (subst (λ (read : Reading). AllTold read (journal_of w.a) frames) (sym h.a.stated.reads) sent_ok)
+    heard_b false = all_tell_append w.a.node.desk.config.read (journal_of w.a) (w.b.way sid) frames (h.b.heard sid)
+        (subst (λ (read : Reading). AllTell read (journal_of w.a) frames) (sym h.a.stated.reads) sent_ok)
 
   -- deeds, one after another
   does_agreed : (deeds : List Deed) (w : World) → BothAgreed x own_a own_b w → AllFit own_a (Of w.b) (journal_of w.a) deeds
@@ -856,7 +856,7 @@ module _ (x : At) (own_a own_b : Own) (w : World) (h : BothAgreed x own_a own_b 
   lost_agreed : (sid k : ℕ) → BothAgreed x own_a own_b (world_lost sid k w)
   lost_agreed sid k =
       changed_agreed (world_lost sid k w).a w.clock refl refl
-      (either_at (AllOf w.b) sid (take k (w.a.way sid)) w.a.way (all_told_take w.b.node.desk.config.read (journal_of w.b) k (w.a.way sid) (h.a.heard sid)) h.a.heard)
+      (either_at (AllOf w.b) sid (take k (w.a.way sid)) w.a.way (all_tell_take w.b.node.desk.config.read (journal_of w.b) k (w.a.way sid) (h.a.heard sid)) h.a.heard)
 
   written_agreed : (name bytes : List ℕ) → BothAgreed x own_a own_b (world_written x name bytes w)
   written_agreed name bytes =

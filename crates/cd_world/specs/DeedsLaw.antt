@@ -1,4 +1,5 @@
--- What the deeds of every row are like: which entries they record, which Results they send, and whose keys the sessions have.
+-- What the deeds of every row are like: which entries they record, which Results and pushes they send, and whose keys the
+-- sessions have.
 use Rattle.std.proofs.Common.{◌≡◌, ℕ, zero, suc, ◌+◌, Bool, true, false, cond, ◌&&◌, eqb, ltb, leb, List, [], ◌∷◌, ◌++◌, length, Option, Some, None, ◌⊎◌, inl, inr, refl, sym, ◌∙◌, ap, subst}
 use Rattle.std.specs.Prelude.{◌||◌, not}
 use Rattle.std.specs.Str.{bytes_eq}
@@ -82,9 +83,9 @@ Tells read journal (message.Result key o) = outcome journal key ≡ Some o
 Tells read journal (message.StepCopyTo key name disp interval len) = Announces read journal key name disp interval
 Tells read journal _ = Unit {0}
 
-abbrev pub AllTold : Reading → List Entry → List Message → Type 0
-AllTold read journal [] = Unit {0}
-AllTold read journal (m ∷ frames) = Tells read journal m × AllTold read journal frames
+abbrev pub AllTell : Reading → List Entry → List Message → Type 0
+AllTell read journal [] = Unit {0}
+AllTell read journal (m ∷ frames) = Tells read journal m × AllTell read journal frames
 
 -- the journal behind these deeds
 abbrev kept_in : List Deed → List Entry → List Entry
@@ -177,7 +178,7 @@ module _ (own : Own) (Says : Message → Type 0) where
   AllFit journal (AskSize name ∷ deeds) = AllFit journal deeds
   AllFit journal (AskBytes name at len ∷ deeds) = AllFit journal deeds
   AllFit journal (Begin key phase ∷ deeds) = PhaseOk phase × AllFit journal deeds
-  AllFit journal (Go phase frames ∷ deeds) = PhaseOk phase × AllTold own.read journal frames × AllFit journal deeds
+  AllFit journal (Go phase frames ∷ deeds) = PhaseOk phase × AllTell own.read journal frames × AllFit journal deeds
 
   -- what comes behind a part, in the journal that it leaves
   abbrev ThenOk : List Entry → Then → Type 0
@@ -229,7 +230,7 @@ module _ (own : Own) (Says : Message → Type 0) where
 
   -- Ends of sessions.
 
-  placed_then_gone : (journal : List Entry) (b : Bool) (n : ℕ) (placed : Placing) (now : ℕ) (frames : List Message) → AllTold own.read journal frames → AllTold own.read (entry.Placed n placed now ∷ journal) frames
+  placed_then_gone : (journal : List Entry) (b : Bool) (n : ℕ) (placed : Placing) (now : ℕ) (frames : List Message) → AllTell own.read journal frames → AllTell own.read (entry.Placed n placed now ∷ journal) frames
       → AllFit journal (cond b (Keep (entry.Placed n placed now) ∷ []) [] ++ Go Gone frames ∷ [])
   placed_then_gone journal true n placed now frames here there = (tt, (tt, there, tt))
   placed_then_gone journal false n placed now frames here there = (tt, here, tt)
@@ -245,9 +246,9 @@ module _ (own : Own) (Says : Message → Type 0) where
   pub close_ok : (desk : Desk) (now : ℕ) (phase : Phase) → AllFit desk.journal (close desk now phase)
   close_ok desk now phase = own_ok desk now (own_number phase)
 
-  abort_ok : (journal : List Entry) (key : Option Key) → AllTold own.read journal (trouble_for key)
+  abort_ok : (journal : List Entry) (key : Option Key) → AllTell own.read journal (trouble_for key)
   abort_ok journal None = tt
-  abort_ok journal (Some key) = elim (ltb key.place 1024) as (λ b. AllTold own.read journal (cond b (message.Abort key cause.Trouble ∷ []) [])) [ true ↦ (tt, tt) | false ↦ tt ]
+  abort_ok journal (Some key) = elim (ltb key.place 1024) as (λ b. AllTell own.read journal (cond b (message.Abort key cause.Trouble ∷ []) [])) [ true ↦ (tt, tt) | false ↦ tt ]
 
   pub trouble_ok : (desk : Desk) (now : ℕ) (phase : Phase) → PhaseOk phase → AllFit desk.journal (trouble desk now phase)
   trouble_ok desk now phase ok = (ok, abort_ok desk.journal (key_under_way phase), close_ok desk now phase)
@@ -314,7 +315,7 @@ module _ (own : Own) (Says : Message → Type 0) where
         (either desk.journal (leb (kept_base a.disp there + a.length) greatest_file) _ _
         (receive_anew_ok role talk (receiving_of key a there) (own_for role key a comes) (new_heard role key a comes)) (answer_ok role talk key (failed cause.TooLarge)))
 
-    marked_then : (b : Bool) (r : Receiving) (offset : ℕ) (phase : Phase) (frames : List Message) → PhaseOk phase → ((journal : List Entry) → AllTold own.read journal frames)
+    marked_then : (b : Bool) (r : Receiving) (offset : ℕ) (phase : Phase) (frames : List Message) → PhaseOk phase → ((journal : List Entry) → AllTell own.read journal frames)
         → AllFit desk.journal (cond b (Touch (shelves.SyncFile r.name) ∷ Keep (entry.Mark r.key offset) ∷ []) [] ++ Go phase frames ∷ [])
     marked_then true r offset phase frames ok sent = (tt, (ok, sent _, tt))
     marked_then false r offset phase frames ok sent = (ok, sent _, tt)
@@ -574,7 +575,7 @@ module _ (own : Own) (Says : Message → Type 0) where
 
   connect_ok : (desk : Desk) (now : ℕ) (chosen : Row) (waits : Waits) (connected : Bool) → AllFit desk.journal (connect desk now chosen waits connected)
   connect_ok desk now chosen waits true = (tt, hello_ok (own_home desk.journal), tt) where
-    hello_ok : (known : Option (List ℕ × ℕ)) → AllTold own.read desk.journal (hello known desk.config.block)
+    hello_ok : (known : Option (List ℕ × ℕ)) → AllTell own.read desk.journal (hello known desk.config.block)
     hello_ok None = tt
     hello_ok (Some is) = (tt, tt)
   connect_ok desk now chosen waits false = (tt, tt)

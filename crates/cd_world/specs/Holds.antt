@@ -1,5 +1,5 @@
 -- What holds in every world that two nodes come to.
-use Rattle.std.specs.Prelude.{◌≡◌, ℕ, ◌+◌, List, [], ◌∷◌, ◌++◌, length, take, drop, Bool, true, false, ◌&&◌, Option, Some, None, if◌then◌else◌}
+use Rattle.std.specs.Prelude.{◌≡◌, ◌⊎◌, ℕ, ◌+◌, List, [], ◌∷◌, ◌++◌, length, take, drop, Bool, true, false, ◌&&◌, Option, Some, None, if◌then◌else◌}
 use Rattle.std.specs.List.{list_any}
 use Rattle.std.specs.Str.{bytes_eq}
 use Rattle.cd_outside.specs.Disposition.{landed, dropped}
@@ -82,7 +82,7 @@ pub record IsAs (step : CopyStep) (r : Receiving) : Type 0 where
   pub disp : r.disp ≡ step.disp
   pub interval : r.interval ≡ interval_of step.ckpt
 
--- it is as the COPY at its place in the Process of this journal: a push, or a pull
+-- it is as the COPY of its key's number and place in this journal, which is a push or a pull
 pub record IsStated (read : Reading) (journal : List Entry) (push : Bool) (r : Receiving) : Type 0 where
   pub step : CopyStep
   pub stands : what_at read journal r.key.number r.key.place ≡ Some (what.Copy step)
@@ -93,11 +93,11 @@ pub record IsStated (read : Reading) (journal : List Entry) (push : Bool) (r : R
 abbrev pub IsStepOf : List Entry → Key → Type 0
 IsStepOf journal key = own_home journal ≡ Some (key.pnode, key.home)
 
--- what a node receives for a Process of its own is as a pull of it, and what it receives for one of the other node as a push
+-- what a node receives is for a Process of its own, and as a pull of it, or for one of the other node, and as a push of it
 abbrev pub AsStated : Half → Half → Receiving → Type 0
 AsStated here there r =
-    (IsStepOf (journal_of here) r.key → IsStated here.node.desk.config.read (journal_of here) false r)
-    × (IsStepOf (journal_of there) r.key → IsStated there.node.desk.config.read (journal_of there) true r)
+    (IsStepOf (journal_of here) r.key × IsStated here.node.desk.config.read (journal_of here) false r)
+    ⊎ (IsStepOf (journal_of there) r.key × IsStated there.node.desk.config.read (journal_of there) true r)
 
 -- each Receiving of a journal
 abbrev pub EachReceiving : (Receiving → Type 0) → List Entry → Type 0

@@ -24,17 +24,12 @@ use Rattle.cd_world.specs.AgreedLaw.{Of, StatedBy, EachLanded, Agreed, BothAgree
 
 -- The statements.
 
-module _ (x : At) (own own2 : Own) (a b : Half) (notes : List Note) (h : Agreed x own a b notes) (home2 : own_home (journal_of b) ≡ own2.home) (apart : own.home ≡ own2.home → ⊥) where
+module _ (x : At) (own : Own) (a b : Half) (notes : List Note) (h : Agreed x own a b notes) where
   as_stated : (r : Receiving) → StatedBy own (journal_of a) (Of b) r → AsStated a b r
-  as_stated r by = (here, there_too) where
-    here : IsStepOf (journal_of a) r.key → IsStated a.node.desk.config.read (journal_of a) false r
-    here is = subst (λ (read : Reading). IsStated read (journal_of a) false r) (sym h.stated.reads) (by.mine (sym h.home ∙ is))
-
-    there_too : IsStepOf (journal_of b) r.key → IsStated b.node.desk.config.read (journal_of b) true r
-    there_too is = elim by.theirs [
-      | inl own_key ↦ absurd (apart (own_key ∙ sym is ∙ home2))
-      | inr told ↦ record { step = told.step; stands = told.stands; way = told.push; same = record { name = told.name_is; disp = told.disp_is; interval = told.interval_is } }
-    ]
+  as_stated r by = elim by.theirs [
+    | inl own_key ↦ inl (h.home ∙ own_key, subst (λ (read : Reading). IsStated read (journal_of a) false r) (sym h.stated.reads) (by.mine own_key))
+    | inr told ↦ inr (told.own_key, record { step = told.step; stands = told.stands; way = told.push; same = record { name = told.name_is; disp = told.disp_is; interval = told.interval_is } })
+  ]
 
   landed_as_stated : EachLanded x (AsStated a b) notes
   landed_as_stated = each_landed_more x (StatedBy own (journal_of a) (Of b)) (AsStated a b) as_stated notes h.stated.noted
@@ -42,23 +37,13 @@ module _ (x : At) (own own2 : Own) (a b : Half) (notes : List Note) (h : Agreed 
   all_as_stated : EachReceiving (AsStated a b) (journal_of a)
   all_as_stated = each_receiving_more (StatedBy own (journal_of a) (Of b)) (AsStated a b) as_stated (journal_of a) h.stated.each
 
-abbrev name_in : Option (List ℕ × ℕ) → List ℕ
-name_in None = []
-name_in (Some known) = known.0
-
-names_apart : (name name2 : List ℕ) (home home2 : ℕ) → (name ≡ name2 → ⊥) → ◌≡◌ {A = Option (List ℕ × ℕ)} (Some (name, home)) (Some (name2, home2)) → ⊥
-names_apart name name2 home home2 apart is = apart (ap name_in is)
-
 pub events_statements : (w : World) (events : List Event) → IsFirst w → ArePossible w events → HaveStatements (after w events)
 events_statements w events first possible =
     let own_a : Own = new_own first.name_a first.home_a w.a in
     let own_b : Own = new_own first.name_b first.home_b w.b in
     let v : World = after w events in
     let h : BothAgreed A (new_own first.name_a first.home_a w.a) (new_own first.name_b first.home_b w.b) (after w events) = after_agreed _ _ w events (first_agreed w first) (first_sound w first) in
-    record {
-      a = all_as_stated A own_a own_b v.a v.b v.notes h.a h.b.home (names_apart first.name_a first.name_b first.home_a first.home_b first.names);
-      b = all_as_stated B own_b own_a v.b v.a v.notes h.b h.a.home (names_apart first.name_b first.name_a first.home_b first.home_a (λ is. first.names (sym is)));
-    }
+    record { a = all_as_stated A own_a v.a v.b v.notes h.a; b = all_as_stated B own_b v.b v.a v.notes h.b }
 
 -- Copies as they are stated.
 
@@ -119,7 +104,26 @@ home_stays read (entry.Home name home) [] known legal is = absurd cc
 home_stays read (entry.Home name home) (before ∷ journal) known legal is = absurd (false≢true (follows read (entry.Home name home) (before ∷ journal) legal))
 home_stays read e journal known legal is = is
 
-module _ (x : At) (a b : Half) (notes : List Note) (here : EachLanded x (AsStated a b) notes) (there_too : EachLanded (across x) (AsStated b a) notes) where
+-- a node isn't the other one
+abbrev name_in : Option (List ℕ × ℕ) → List ℕ
+name_in None = []
+name_in (Some known) = known.0
+
+names_apart : (name name2 : List ℕ) (home home2 : ℕ) → (name ≡ name2 → ⊥) → ◌≡◌ {A = Option (List ℕ × ℕ)} (Some (name, home)) (Some (name2, home2)) → ⊥
+names_apart name name2 home home2 apart is = apart (ap name_in is)
+
+pulled : (here there : Half) (r : Receiving) → (own_home (journal_of here) ≡ own_home (journal_of there) → ⊥) → IsStepOf (journal_of here) r.key → AsStated here there r
+    → IsStated here.node.desk.config.read (journal_of here) false r
+pulled here there r apart own (inl stated) = stated.1
+pulled here there r apart own (inr stated) = absurd (apart (own ∙ sym stated.0))
+
+pushed : (here there : Half) (r : Receiving) → (own_home (journal_of here) ≡ own_home (journal_of there) → ⊥) → IsStepOf (journal_of there) r.key → AsStated here there r
+    → IsStated there.node.desk.config.read (journal_of there) true r
+pushed here there r apart own (inl stated) = absurd (apart (stated.0 ∙ sym own))
+pushed here there r apart own (inr stated) = stated.1
+
+module _ (x : At) (a b : Half) (notes : List Note) (here : EachLanded x (AsStated a b) notes) (there_too : EachLanded (across x) (AsStated b a) notes)
+    (apart : own_home (journal_of a) ≡ own_home (journal_of b) → ⊥) where
   abbrev ReadsAs : List Entry → Type 0
   ReadsAs journal = (n place : ℕ) (s : What) → what_at a.node.desk.config.read journal n place ≡ Some s → what_at a.node.desk.config.read (journal_of a) n place ≡ Some s
 
@@ -150,13 +154,13 @@ module _ (x : At) (a b : Half) (notes : List Note) (here : EachLanded x (AsState
     by_way true push =
         let one : IsOne (landings (across x) key notes) = subst (λ (p : Bool). IsOne (landings (cond p (across x) x) key notes)) push (once key step is copy code) in
         let found = one_noted (across x) (AsStated b a) key notes one.got there_too one.is in
-        let stated = found.good.1 (subst (λ (k : Key). own_home (journal_of a) ≡ Some (k.pnode, k.home)) (sym found.of_step) home_is) in
+        let stated = pushed b a found.r (λ same. apart (sym same)) (subst (λ (k : Key). own_home (journal_of a) ≡ Some (k.pnode, k.home)) (sym found.of_step) home_is) found.good in
         subst (λ (p : Bool). IsOneAs (cond p (across x) x) step (noted_landings (cond p (across x) x) key notes)) (sym push)
         (record { r = found.r; got = found.got; is = found.is; same = as_copy true key step found.r copy_is found.of_step stated })
     by_way false pull =
         let one : IsOne (landings x key notes) = subst (λ (p : Bool). IsOne (landings (cond p (across x) x) key notes)) pull (once key step is copy code) in
         let found = one_noted x (AsStated a b) key notes one.got here one.is in
-        let stated = found.good.0 (subst (λ (k : Key). own_home (journal_of a) ≡ Some (k.pnode, k.home)) (sym found.of_step) home_is) in
+        let stated = pulled a b found.r apart (subst (λ (k : Key). own_home (journal_of a) ≡ Some (k.pnode, k.home)) (sym found.of_step) home_is) found.good in
         subst (λ (p : Bool). IsOneAs (cond p (across x) x) step (noted_landings (cond p (across x) x) key notes)) (sym pull)
         (record { r = found.r; got = found.got; is = found.is; same = as_copy false key step found.r copy_is found.of_step stated })
 
@@ -184,9 +188,10 @@ events_copied w events first possible =
     let h : BothAgreed A (new_own first.name_a first.home_a w.a) (new_own first.name_b first.home_b w.b) (after w events) = after_agreed _ _ w events (first_agreed w first) (first_sound w first) in
     let grown : BothGrown w (after w events) = after_grown w events (first_sound w first) in
     let once : HaveLanded (after w events) = events_land w events first possible in
-    let at_a : EachLanded A (AsStated v.a v.b) v.notes = landed_as_stated A own_a own_b v.a v.b v.notes h.a h.b.home (names_apart first.name_a first.name_b first.home_a first.home_b first.names) in
-    let at_b : EachLanded B (AsStated v.b v.a) v.notes = landed_as_stated B own_b own_a v.b v.a v.notes h.b h.a.home (names_apart first.name_b first.name_a first.home_b first.home_a (λ is. first.names (sym is))) in
+    let at_a : EachLanded A (AsStated v.a v.b) v.notes = landed_as_stated A own_a v.a v.b v.notes h.a in
+    let at_b : EachLanded B (AsStated v.b v.a) v.notes = landed_as_stated B own_b v.b v.a v.notes h.b in
+    let apart : (own_home (journal_of v.a) ≡ own_home (journal_of v.b) → ⊥) = λ same. names_apart first.name_a first.name_b first.home_a first.home_b first.names (sym h.a.home ∙ same ∙ h.b.home) in
     record {
-      a = all_copied A v.a v.b v.notes at_a at_b (journal_of v.a) grown.a.sound.legal (λ n place s is. is) (λ known is. is) once.a;
-      b = all_copied B v.b v.a v.notes at_b at_a (journal_of v.b) grown.b.sound.legal (λ n place s is. is) (λ known is. is) once.b;
+      a = all_copied A v.a v.b v.notes at_a at_b apart (journal_of v.a) grown.a.sound.legal (λ n place s is. is) (λ known is. is) once.a;
+      b = all_copied B v.b v.a v.notes at_b at_a (λ same. apart (sym same)) (journal_of v.b) grown.b.sound.legal (λ n place s is. is) (λ known is. is) once.b;
     }

@@ -7,9 +7,8 @@ ghost use Rattle.cd_world.specs.Worked.{bytes, five, worked_receiving, worked_wo
 ghost use Rattle.cd_world.specs.World.{A, B, Landed, IsFirst, ArePossible, after};
 
 /// In a first world a Process is submitted that pushes a file of three bytes, and then all that waits is handled. These
-/// events are possible; the step ends with 0, its landing is noted once, of a receiving as the statement
-/// says, and the destination has the bytes, which the notes
-/// leave there.
+/// events are possible; the step ends with 0, its landing is noted once, of a receiving as the statement says, and the
+/// destination has the bytes, which the notes leave there.
 pub fn worked_push()
     ensures first { IsFirst worked_world }
     ensures possible { ArePossible worked_world worked_events }
