@@ -1,5 +1,5 @@
 -- What two nodes have agreed on: results on the way are the sender's outcomes, and each Ended is its keeper's outcome. What
--- landed has an outcome, and landed once.
+-- landed has an outcome, and landed once. Pushes on the way are as their statements, and so is what is received.
 use Rattle.std.proofs.Common.{◌≡◌, ℕ, zero, suc, ◌+◌, Bool, true, false, cond, ◌&&◌, eqb, ltb, List, [], ◌∷◌, ◌++◌, length, take, drop, Option, Some, None, inl, inr, refl, sym, ◌∙◌, ap, subst}
 use Rattle.std.specs.Prelude.{not}
 use Rattle.std.proofs.lemmas.List.{append-nil, take-append-drop}
@@ -8,6 +8,7 @@ use Rattle.cd_types.specs.Choices.{cause_code}
 use Rattle.cd_types.specs.declared.card.Filed.{Filed}
 use Rattle.cd_types.specs.declared.choices.Cause.{Cause}
 use Rattle.cd_types.specs.declared.choices.Cause.TheVariants as cause
+use Rattle.cd_types.specs.declared.choices.TaskKind.{TaskKind}
 use Rattle.cd_types.specs.declared.key.Key.{Key}
 use Rattle.cd_types.specs.declared.rows.Outcomes.{Outcomes}
 use Rattle.cd_types.specs.declared.rows.Receiving.{Receiving}
@@ -31,11 +32,11 @@ use Rattle.cd_moves.specs.declared.session.Phase.{Phase}
 use Rattle.cd_moves.specs.Node.{Config, Desk, Sessions, Node, Deed, Keep, Touch, AskSize, AskBytes, Begin, Go, Answers, did, does, recorded}
 use Rattle.cd_moves.specs.Rows.{row_choose, row_trouble}
 use Rattle.cd_moves.specs.RowsLaw.{same_config, part_extends}
-use Rattle.cd_world.specs.World.{At, A, B, across, Note, Wrote, Half, World, seen_from, landing_of, dropping_of, noted_by, read_for, is_gone, at_session, behind_them, world_did, world_does, Happening, Choice, Call, Frame, End, Task, nothing, opens, with_session, called, answers_now, came, ended, task_of, task, world_after, world_within, deeds_left, Cut, cut_off, with_shelf, world_faulted, down, world_stopped, no_sessions, marked, world_started, world_lost, world_written, submission_of, world_submitted, Event, Does, Fails, Stops, Starts, Loses, Writes, Later, Submits, later, happens, after, IsNew, IsFirst, ArePossible}
-use Rattle.cd_world.specs.Holds.{journal_of, IsOutcome, IsOwnStep, EachEnded, EndsAsKept, HaveResults, is_at, landings, IsOne, LandsOnce, HaveLanded}
-use Rattle.cd_world.specs.DeedsLaw.{PhaseOk, EndedBy, KeepOk, SentOk, AllSent, AllFit, HeardOk, row_ok, choose_ok, close_ok, trouble_ok}
+use Rattle.cd_world.specs.World.{At, A, B, across, Note, Sized, Read, Began, Landed, Dropped, Wrote, Half, World, seen_from, landing_of, dropping_of, noted_by, read_for, is_gone, at_session, behind_them, world_did, world_does, Happening, Choice, Call, Frame, End, Task, nothing, opens, with_session, called, answers_now, came, ended, task_of, task, world_after, world_within, deeds_left, Cut, cut_off, with_shelf, world_faulted, down, world_stopped, no_sessions, marked, world_started, world_lost, world_written, submission_of, world_submitted, Event, Does, Fails, Stops, Starts, Loses, Writes, Later, Submits, later, happens, after, IsNew, IsFirst, ArePossible}
+use Rattle.cd_world.specs.Holds.{journal_of, IsOutcome, IsOwnStep, EachEnded, EndsAsKept, HaveResults, IsStated, EachReceiving, is_at, landings, IsOne, LandsOnce, HaveLanded}
+use Rattle.cd_world.specs.DeedsLaw.{Own, Tells, AllTell, PhaseOk, EndedBy, IsHeard, KeepOk, AllFit, row_ok, choose_ok, close_ok, trouble_ok}
 use Rattle.cd_world.specs.GrownLaw.{does_node, BothGrown, BothSound, within_grown, whole_grown, trouble_grown, legal_more, happens_grown, after_grown, first_sound}
-use Rattle.cd_world.specs.KeptLaw.{outcome_kept}
+use Rattle.cd_world.specs.KeptLaw.{outcome_kept, statement_stays, receiving_stated}
 
 -- An outcome with this code.
 pub record HasCode (journal : List Entry) (key : Key) (rc : ℕ) : Type 0 where
@@ -61,24 +62,53 @@ abbrev pub LandOk : Status → List (List ℕ) → Type 0
 LandOk (status.Done o) landed = o.rc ≡ 0 → IsOne landed
 LandOk _ landed = landed ≡ []
 
+-- what a node may tell, and all that it sent
+abbrev pub Of : Half → Message → Type 0
+Of half m = Tells half.node.desk.config.read (journal_of half) m
+
+abbrev pub AllOf : Half → List Message → Type 0
+AllOf half frames = AllTell half.node.desk.config.read (journal_of half) frames
+
+-- a receiving is as a statement of this node, or as the other node announced it
+pub record StatedBy (own : Own) (journal : List Entry) (Says : Message → Type 0) (r : Receiving) : Type 0 where
+  pub mine : own.home ≡ Some (r.key.pnode, r.key.home) → IsStated own.read journal false r
+  pub theirs : IsHeard own Says r
+
+-- each receiving that landed at a node
+abbrev pub EachLanded : At → (Receiving → Type 0) → List Note → Type 0
+EachLanded x P [] = Unit {0}
+EachLanded x P (Landed y r got ∷ notes) = (is_at x y ≡ true → P r) × EachLanded x P notes
+EachLanded x P (Sized y name size ∷ notes) = EachLanded x P notes
+EachLanded x P (Read y step at bytes ∷ notes) = EachLanded x P notes
+EachLanded x P (Began y r ∷ notes) = EachLanded x P notes
+EachLanded x P (Dropped y r ∷ notes) = EachLanded x P notes
+EachLanded x P (Wrote y name bytes ∷ notes) = EachLanded x P notes
+
+pub record AllStated (x : At) (own : Own) (desk : Desk) (Says : Message → Type 0) (notes : List Note) : Type 0 where
+  pub reads : desk.config.read ≡ own.read
+  pub each : EachReceiving (StatedBy own desk.journal Says) desk.journal
+  pub noted : EachLanded x (StatedBy own desk.journal Says) notes
+
 -- What holds of one node beside the other one.
-pub record Agreed (x : At) (own : Option (List ℕ × ℕ)) (a b : Half) (notes : List Note) : Type 0 where
-  pub home : own_home (journal_of a) ≡ own
-  pub phases : (n : ℕ) → PhaseOk own (λ key o. outcome (journal_of b) key ≡ Some o) (a.node.sessions.phase n)
-  pub heard : (n : ℕ) → AllSent own (λ key o. outcome (journal_of b) key ≡ Some o) (journal_of b) (a.way n)
+pub record Agreed (x : At) (own : Own) (a b : Half) (notes : List Note) : Type 0 where
+  pub home : own_home (journal_of a) ≡ own.home
+  pub phases : (n : ℕ) → PhaseOk own (Of b) (a.node.sessions.phase n)
+  pub heard : (n : ℕ) → AllOf b (a.way n)
+  pub stated : AllStated x own a.node.desk (Of b) notes
   pub ended : EachEnded (EndedKept a.node.desk.config.read (journal_of b)) (journal_of a)
   pub plain : (key : Key) → made_for (journal_of a) key ≡ None
   pub started : (key : Key) → NotStarted (status.status (journal_of a) key)
   pub landed : (key : Key) → LandOk (status.status (journal_of a) key) (landings x key notes)
 
 -- Entries that rows record, and submissions by operators.
-module _ (own : Option (List ℕ × ℕ)) (Says : Key → Outcomes → Type 0) where
+module _ (own : Own) (Says : Message → Type 0) where
   abbrev pub RecordOk : List Entry → Entry → Type 0
   RecordOk journal (entry.Submitted n moment None card text) = Unit {0}
   RecordOk journal (entry.Submitted n moment (Some key) card text) = ⊥
   RecordOk journal (entry.Home name home) = ⊥
   RecordOk journal (entry.Started key kind try moment) = ⊥
   RecordOk journal (entry.Ended n place rc why bytes moment) = EndedBy own Says journal n place rc why bytes
+  RecordOk journal (entry.Receiving r) = IsHeard own Says r
   RecordOk journal _ = Unit {0}
 
   record_ok : (journal : List Entry) (e : Entry) → KeepOk own Says journal e → RecordOk journal e
@@ -86,6 +116,7 @@ module _ (own : Option (List ℕ × ℕ)) (Says : Key → Outcomes → Type 0) w
   record_ok journal (entry.Home name home) ok = ok
   record_ok journal (entry.Started key kind try moment) ok = ok
   record_ok journal (entry.Ended n place rc why bytes moment) ok = ok
+  record_ok journal (entry.Receiving r) ok = ok
   record_ok journal e ok = tt
 
   home_more : (journal : List Entry) (e : Entry) → RecordOk journal e → own_home (e ∷ journal) ≡ own_home journal
@@ -127,7 +158,7 @@ module _ (own : Option (List ℕ × ℕ)) (Says : Key → Outcomes → Type 0) w
       ]
 
   -- a new Ended
-  module _ (read : Reading) (other journal : List Entry) (home : own_home journal ≡ own) (legal : is_legal read journal ≡ true) where
+  module _ (read : Reading) (other journal : List Entry) (home : own_home journal ≡ own.home) (legal : is_legal read journal ≡ true) where
     found_code : (key : Key) (rc : ℕ) (why : Cause) (bytes : ℕ) (found : Option Outcomes) → outcome journal key ≡ found → is_outcome rc why bytes found ≡ true → HasCode journal key rc
     found_code key rc why bytes None is fits = absurd (false≢true fits)
     found_code key rc why bytes (Some o) is fits =
@@ -145,7 +176,7 @@ module _ (own : Option (List ℕ × ℕ)) (Says : Key → Outcomes → Type 0) w
         ]
 
     new_ended : (n place rc : ℕ) (why : Cause) (bytes : ℕ) → may_end read journal n place rc why bytes ≡ true → EndedBy own Says journal n place rc why bytes
-        → ((key : Key) (o : Outcomes) → Says key o → outcome other key ≡ Some o) → EndedKept read other journal n place rc why bytes
+        → ((key : Key) (o : Outcomes) → Says (message.Result key o) → outcome other key ≡ Some o) → EndedKept read other journal n place rc why bytes
     new_ended n place rc why bytes fits by says =
         let own_is : own_home journal ≡ Some (by.key.pnode, by.key.home) = home ∙ by.own_key in
         let kept = (and_parts (is_live journal n && runs_itself journal n && eqb place (next_place read journal n) && ltb place (length (stmts_of read journal n))) (is_kept_outcome journal n place rc why bytes (what_at read journal n place)) fits).1 in
@@ -173,7 +204,7 @@ module _ (own : Option (List ℕ × ℕ)) (Says : Key → Outcomes → Type 0) w
           ];
         }
 
-    ended_more : (e : Entry) → is_legal read (e ∷ journal) ≡ true → RecordOk journal e → ((key : Key) (o : Outcomes) → Says key o → outcome other key ≡ Some o)
+    ended_more : (e : Entry) → is_legal read (e ∷ journal) ≡ true → RecordOk journal e → ((key : Key) (o : Outcomes) → Says (message.Result key o) → outcome other key ≡ Some o)
         → EachEnded (EndedKept read other) journal → EachEnded (EndedKept read other) (e ∷ journal)
     ended_more (entry.Ended n place rc why bytes moment) legal2 ok says all = (new_ended n place rc why bytes (follows read _ journal legal2) ok says, all)
     ended_more (entry.Home name known) legal2 ok says all = all
@@ -324,14 +355,7 @@ others_landings x journal received notes e key = refl
 
 -- Both nodes.
 
-abbrev Own : Type 0
-Own = Option (List ℕ × ℕ)
-
--- what a node has as the outcome of a key
-abbrev pub Of : Half → Key → Outcomes → Type 0
-Of half key o = outcome (journal_of half) key ≡ Some o
-
-pub record BothAgreed (x : At) (own_a own_b : Option (List ℕ × ℕ)) (w : World) : Type 0 where
+pub record BothAgreed (x : At) (own_a own_b : Own) (w : World) : Type 0 where
   pub a : Agreed x own_a w.a w.b w.notes
   pub b : Agreed (across x) own_b w.b w.a w.notes
 
@@ -342,22 +366,47 @@ each_more P Q more (entry.Ended n place rc why bytes moment ∷ journal) all = (
 each_more P Q more (entry.Home name home ∷ journal) all = each_more P Q more journal all
 each_more P Q more (e ∷ journal) all = each_more P Q more journal all
 
-sent_more : (own : Own) (Says Says2 : Key → Outcomes → Type 0) (journal journal2 : List Entry) → ((key : Key) (o : Outcomes) → outcome journal key ≡ Some o → outcome journal2 key ≡ Some o)
-    → (m : Message) → SentOk own Says journal m → SentOk own Says2 journal2 m
-sent_more own Says Says2 journal journal2 more (message.Result key o) h = more key o h
-sent_more own Says Says2 journal journal2 more m h = tt
+pub each_receiving_more : (P Q : Receiving → Type 0) → ((r : Receiving) → P r → Q r) → (journal : List Entry) → EachReceiving P journal → EachReceiving Q journal
+each_receiving_more P Q more [] all = tt
+each_receiving_more P Q more (entry.Receiving r ∷ journal) all = (more r all.0, each_receiving_more P Q more journal all.1)
+each_receiving_more P Q more (entry.Home name home ∷ journal) all = each_receiving_more P Q more journal all
+each_receiving_more P Q more (e ∷ journal) all = each_receiving_more P Q more journal all
 
-all_sent_more : (own own2 : Own) (Says Says2 : Key → Outcomes → Type 0) (journal journal2 : List Entry) → ((key : Key) (o : Outcomes) → outcome journal key ≡ Some o → outcome journal2 key ≡ Some o)
-    → (frames : List Message) → AllSent own Says journal frames → AllSent own2 Says2 journal2 frames
-all_sent_more own own2 Says Says2 journal journal2 more [] h = tt
-all_sent_more own own2 Says Says2 journal journal2 more (m ∷ frames) h = (sent_more own Says Says2 journal journal2 more m h.0, all_sent_more own own2 Says Says2 journal journal2 more frames h.1)
+pub each_landed_more : (x : At) (P Q : Receiving → Type 0) → ((r : Receiving) → P r → Q r) → (notes : List Note) → EachLanded x P notes → EachLanded x Q notes
+each_landed_more x P Q more [] all = tt
+each_landed_more x P Q more (Landed y r got ∷ notes) all = (λ here. more r (all.0 here), each_landed_more x P Q more notes all.1)
+each_landed_more x P Q more (Sized y name size ∷ notes) all = each_landed_more x P Q more notes all
+each_landed_more x P Q more (Read y step at bytes ∷ notes) all = each_landed_more x P Q more notes all
+each_landed_more x P Q more (Began y r ∷ notes) all = each_landed_more x P Q more notes all
+each_landed_more x P Q more (Dropped y r ∷ notes) all = each_landed_more x P Q more notes all
+each_landed_more x P Q more (Wrote y name bytes ∷ notes) all = each_landed_more x P Q more notes all
+
+stated_more : (own : Own) (journal journal2 : List Entry) (Says Says2 : Message → Type 0)
+    → ((n place : ℕ) (s : What) → what_at own.read journal n place ≡ Some s → what_at own.read journal2 n place ≡ Some s) → ((m : Message) → Says m → Says2 m)
+    → (r : Receiving) → StatedBy own journal Says r → StatedBy own journal2 Says2 r
+stated_more own journal journal2 Says Says2 stays more r by = record {
+  mine = λ is. let was = by.mine is in record { step = was.step; stands = stays r.key.number r.key.place _ was.stands; way = was.way; same = was.same };
+  theirs = elim by.theirs [
+    | inl is ↦ inl is
+    | inr told ↦ inr (more (message.StepCopyTo r.key r.name r.disp r.interval r.length) told)
+  ];
+}
+
+told_more : (read read2 : Reading) (journal journal2 : List Entry) → ((m : Message) → Tells read journal m → Tells read2 journal2 m) → (frames : List Message) → AllTell read journal frames → AllTell read2 journal2 frames
+told_more read read2 journal journal2 more [] h = tt
+told_more read read2 journal journal2 more (m ∷ frames) h = (more m h.0, told_more read read2 journal journal2 more frames h.1)
 
 -- beside another state of the other node, which has the same outcomes
-beside : (x : At) (own : Own) (a b b2 : Half) (notes : List Note) → ((key : Key) (o : Outcomes) → Of b key o → Of b2 key o) → Agreed x own a b notes → Agreed x own a b2 notes
+beside : (x : At) (own : Own) (a b b2 : Half) (notes : List Note) → ((m : Message) → Of b m → Of b2 m) → Agreed x own a b notes → Agreed x own a b2 notes
 beside x own a b b2 notes more h = record {
   home = h.home;
   phases = h.phases;
-  heard = λ n. all_sent_more own own (Of b) (Of b2) (journal_of b) (journal_of b2) more (a.way n) (h.heard n);
+  heard = λ n. told_more b.node.desk.config.read b2.node.desk.config.read (journal_of b) (journal_of b2) more (a.way n) (h.heard n);
+  stated = record {
+    reads = h.stated.reads;
+    each = each_receiving_more (StatedBy own (journal_of a) (Of b)) (StatedBy own (journal_of a) (Of b2)) (stated_more own (journal_of a) (journal_of a) (Of b) (Of b2) (λ n place s is. is) more) (journal_of a) h.stated.each;
+    noted = each_landed_more x (StatedBy own (journal_of a) (Of b)) (StatedBy own (journal_of a) (Of b2)) (stated_more own (journal_of a) (journal_of a) (Of b) (Of b2) (λ n place s is. is) more) notes h.stated.noted;
+  };
   ended = each_more (EndedKept a.node.desk.config.read (journal_of b)) (EndedKept a.node.desk.config.read (journal_of b2))
       (λ journal n place rc why bytes k. record {
         key = k.key;
@@ -365,7 +414,7 @@ beside x own a b b2 notes more h = record {
         number = k.number;
         step = k.step;
         here = k.here;
-        there = λ apart. let is = k.there apart in record { o = is.o; is = more k.key is.o is.is; code = is.code; cause = is.cause; length = is.length };
+        there = λ apart. let is = k.there apart in record { o = is.o; is = more (message.Result k.key is.o) is.is; code = is.code; cause = is.cause; length = is.length };
       }) (journal_of a) h.ended;
   plain = h.plain;
   started = h.started;
@@ -373,11 +422,13 @@ beside x own a b b2 notes more h = record {
 }
 
 -- with other notes, of which as much landed
-noted : (x : At) (own : Own) (a b : Half) (notes notes2 : List Note) → ((key : Key) → landings x key notes2 ≡ landings x key notes) → Agreed x own a b notes → Agreed x own a b notes2
-noted x own a b notes notes2 same h = record {
+noted : (x : At) (own : Own) (a b : Half) (notes notes2 : List Note) → ((key : Key) → landings x key notes2 ≡ landings x key notes)
+    → ((P : Receiving → Type 0) → EachLanded x P notes → EachLanded x P notes2) → Agreed x own a b notes → Agreed x own a b notes2
+noted x own a b notes notes2 same more h = record {
   home = h.home;
   phases = h.phases;
   heard = h.heard;
+  stated = record { reads = h.stated.reads; each = h.stated.each; noted = more (StatedBy own (journal_of a) (Of b)) h.stated.noted };
   ended = h.ended;
   plain = h.plain;
   started = h.started;
@@ -387,14 +438,142 @@ noted x own a b notes notes2 same h = record {
 pub either_at : {T : Type 0} (P : T → Type 0) (sid : ℕ) (value : T) (others : ℕ → T) → P value → ((n : ℕ) → P (others n)) → (n : ℕ) → P (at_session sid value others n)
 either_at P sid value others one rest n = elim (eqb sid n) as (λ b. P (cond b value (others n))) [ true ↦ one | false ↦ rest n ]
 
-all_sent_append : (own : Own) (Says : Key → Outcomes → Type 0) (journal : List Entry) (first second : List Message) → AllSent own Says journal first → AllSent own Says journal second → AllSent own Says journal (first ++ second)
-all_sent_append own Says journal [] second one two = two
-all_sent_append own Says journal (m ∷ first) second one two = (one.0, all_sent_append own Says journal first second one.1 two)
+all_tell_append : (read : Reading) (journal : List Entry) (first second : List Message) → AllTell read journal first → AllTell read journal second → AllTell read journal (first ++ second)
+all_tell_append read journal [] second one two = two
+all_tell_append read journal (m ∷ first) second one two = (one.0, all_tell_append read journal first second one.1 two)
 
-all_sent_take : (own : Own) (Says : Key → Outcomes → Type 0) (journal : List Entry) (k : ℕ) (frames : List Message) → AllSent own Says journal frames → AllSent own Says journal (take k frames)
-all_sent_take own Says journal zero frames h = tt
-all_sent_take own Says journal (suc k) [] h = tt
-all_sent_take own Says journal (suc k) (m ∷ frames) h = (h.0, all_sent_take own Says journal k frames h.1)
+all_tell_take : (read : Reading) (journal : List Entry) (k : ℕ) (frames : List Message) → AllTell read journal frames → AllTell read journal (take k frames)
+all_tell_take read journal zero frames h = tt
+all_tell_take read journal (suc k) [] h = tt
+all_tell_take read journal (suc k) (m ∷ frames) h = (h.0, all_tell_take read journal k frames h.1)
+
+-- Statements.
+
+-- what a node told it tells behind one more entry
+tells_stay : (read : Reading) (e : Entry) (journal : List Entry) → is_legal read (e ∷ journal) ≡ true → own_home (e ∷ journal) ≡ own_home journal → (m : Message) → Tells read journal m → Tells read (e ∷ journal) m
+tells_stay read e journal legal home (message.Result key o) h = outcome_stays read (e ∷ []) journal key o legal h
+tells_stay read e journal legal home (message.StepCopyTo key name disp interval len) h = record {
+  step = h.step;
+  own_key = home ∙ h.own_key;
+  stands = statement_stays read e journal key.number key.place _ legal h.stands;
+  push = h.push;
+  name_is = h.name_is;
+  disp_is = h.disp_is;
+  interval_is = h.interval_is;
+}
+tells_stay read e journal legal home m h = tt
+
+each_tail : (P : Receiving → Type 0) (e : Entry) (journal : List Entry) → EachReceiving P (e ∷ journal) → EachReceiving P journal
+each_tail P (entry.Receiving r) journal all = all.1
+each_tail P (entry.Home name home) journal all = all
+each_tail P e journal all = all
+
+-- the receiving of a status, or another one
+abbrev receiving_in : Receiving → Status → Receiving
+receiving_in other (status.Open r safe) = r
+receiving_in other s = other
+
+-- an open receiving is one that was recorded
+module _ (P : Receiving → Type 0) (key : Key) (r : Receiving) where
+  opened_each : (new : Receiving) (s : Status) (safe : ℕ) → P new → (s ≡ status.Open r safe → P r) → status.opened new s ≡ status.Open r safe → P r
+  opened_each new status.Fresh safe one rest is = subst P (ap (receiving_in r) is) one
+  opened_each new (status.Started tries kind) safe one rest is = subst P (ap (receiving_in r) is) one
+  opened_each new (status.Open before mark) safe one rest is = subst P (ap (receiving_in r) is) one
+  opened_each new (status.Done o) safe one rest is = absurd cc
+
+  marked_each : (offset : ℕ) (s : Status) (safe : ℕ) → ((mark : ℕ) → s ≡ status.Open r mark → P r) → status.marked offset s ≡ status.Open r safe → P r
+  marked_each offset status.Fresh safe rest is = absurd cc
+  marked_each offset (status.Started tries kind) safe rest is = absurd cc
+  marked_each offset (status.Open before mark) safe rest is = rest mark (ap (λ (k : Receiving). status.Open k mark) (ap (receiving_in r) is))
+  marked_each offset (status.Done o) safe rest is = absurd cc
+
+  started_each : (kind : TaskKind) (s : Status) (safe : ℕ) → ((mark : ℕ) → s ≡ status.Open r mark → P r) → status.once_more kind s ≡ status.Open r safe → P r
+  started_each kind status.Fresh safe rest is = absurd cc
+  started_each kind (status.Started tries last) safe rest is = absurd cc
+  started_each kind (status.Open before mark) safe rest is = rest safe is
+  started_each kind (status.Done o) safe rest is = absurd cc
+
+  after_each : (e : Entry) (journal : List Entry) (s : Status) (safe : ℕ) → EachReceiving P (e ∷ journal) → ((mark : ℕ) → s ≡ status.Open r mark → P r) → status.after e s ≡ status.Open r safe → P r
+  after_each (entry.Receiving new) journal s safe all rest is = opened_each new s safe all.0 (rest safe) is
+  after_each (entry.Mark step offset) journal s safe all rest is = marked_each offset s safe rest is
+  after_each (entry.Started step kind try moment) journal s safe all rest is = started_each kind s safe rest is
+  after_each (entry.Result step o moment) journal s safe all rest is = absurd cc
+  after_each (entry.Dropped step rc why moment) journal s safe all rest is = absurd cc
+  after_each e journal s safe all rest is = rest safe is
+
+  open_each : (journal : List Entry) (safe : ℕ) → status.status journal key ≡ status.Open r safe → EachReceiving P journal → P r
+  unfolding status.status
+  open_each [] safe is all = absurd cc
+  open_each (e ∷ journal) safe is all =
+      elim (cases_Bool (is_of key e)) [
+        | inl own ↦ after_each e journal (status.status journal key) safe all (λ mark was. open_each journal mark was (each_tail P e journal all)) (sym (status-own e journal key own) ∙ is)
+        | inr other ↦ open_each journal safe (sym (status-other e journal key other) ∙ is) (each_tail P e journal all)
+      ]
+
+module _ (x : At) (P : Receiving → Type 0) (journal : List Entry) (received : Key → List ℕ) (notes : List Note) (each : EachReceiving P journal) (all : EachLanded x P notes) where
+  -- what lands was being received
+  landing_each : (step : Key) (s : Status) → status.status journal step ≡ s → EachLanded x P (landing_of x s (received step) notes)
+  landing_each step status.Fresh is = all
+  landing_each step (status.Started tries kind) is = all
+  landing_each step (status.Open r safe) is = (λ here. open_each P step r journal safe is each, all)
+  landing_each step (status.Done o) is = all
+
+  dropping_each : (s : Status) → EachLanded x P (dropping_of x s notes)
+  dropping_each status.Fresh = all
+  dropping_each (status.Started tries kind) = all
+  dropping_each (status.Open r safe) = all
+  dropping_each (status.Done o) = all
+
+  noted_each : (e : Entry) → EachLanded x P (noted_by x journal received e notes)
+  noted_each (entry.Result step o moment) = landing_each step (status.status journal step) refl
+  noted_each (entry.Dropped step rc why moment) = dropping_each (status.status journal step)
+  noted_each (entry.Receiving r) = all
+  noted_each e = all
+
+-- the other node's landings stay as they were
+others_each : (x : At) (P : Receiving → Type 0) (journal : List Entry) (received : Key → List ℕ) (notes : List Note) (e : Entry) → EachLanded (across x) P notes
+    → EachLanded (across x) P (noted_by x journal received e notes)
+others_each x P journal received notes (entry.Result step o moment) all = by_status (status.status journal step) where
+  by_status : (s : Status) → EachLanded (across x) P (landing_of x s (received step) notes)
+  by_status status.Fresh = all
+  by_status (status.Started tries kind) = all
+  by_status (status.Open r safe) = (λ here. absurd (false≢true (sym (not_across x) ∙ here)), all)
+  by_status (status.Done before) = all
+others_each x P journal received notes (entry.Dropped step rc why moment) all = by_status (status.status journal step) where
+  by_status : (s : Status) → EachLanded (across x) P (dropping_of x s notes)
+  by_status status.Fresh = all
+  by_status (status.Started tries kind) = all
+  by_status (status.Open r safe) = all
+  by_status (status.Done before) = all
+others_each x P journal received notes (entry.Receiving r) all = all
+others_each x P journal received notes e all = all
+
+-- one more entry
+each_kept : (own : Own) (Says : Message → Type 0) (journal : List Entry) (e : Entry) → is_legal own.read (e ∷ journal) ≡ true → own_home journal ≡ own.home → RecordOk own Says journal e
+    → EachReceiving (StatedBy own (e ∷ journal) Says) journal → EachReceiving (StatedBy own (e ∷ journal) Says) (e ∷ journal)
+each_kept own Says journal (entry.Receiving r) legal home ok all = (
+  record {
+    mine = λ is. let was = receiving_stated own.read journal r legal (home ∙ is) in
+        record { step = was.step; stands = statement_stays own.read (entry.Receiving r) journal r.key.number r.key.place _ legal was.stands; way = was.way; same = was.same };
+    theirs = ok;
+  },
+  all,
+)
+each_kept own Says journal (entry.Home name known) legal home ok all = all
+each_kept own Says journal e legal home ok all = all
+
+stated_kept : (x : At) (own : Own) (Says : Message → Type 0) (desk : Desk) (received : Key → List ℕ) (notes : List Note) (e : Entry) → AllStated x own desk Says notes → own_home desk.journal ≡ own.home
+    → is_legal desk.config.read (e ∷ desk.journal) ≡ true → RecordOk own Says desk.journal e → AllStated x own (recorded e desk) Says (noted_by x desk.journal received e notes)
+stated_kept x own Says desk received notes e h home legal ok =
+    let journal : List Entry = desk.journal in
+    let legal2 : is_legal own.read (e ∷ journal) ≡ true = subst (λ (read : Reading). is_legal read (e ∷ journal) ≡ true) h.reads legal in
+    let more : (r : Receiving) → StatedBy own journal Says r → StatedBy own (e ∷ journal) Says r = stated_more own journal (e ∷ journal) Says Says (λ n place s is. statement_stays own.read e journal n place s legal2 is) (λ m told. told) in
+    record {
+      reads = h.reads;
+      each = each_kept own Says journal e legal2 home ok (each_receiving_more (StatedBy own journal Says) (StatedBy own (e ∷ journal) Says) more journal h.each);
+      noted = each_landed_more x (StatedBy own journal Says) (StatedBy own (e ∷ journal) Says) more (noted_by x journal received e notes)
+          (noted_each x (StatedBy own journal Says) journal received notes h.each h.noted e);
+    }
 
 module _ (x : At) (own_a own_b : Own) (sid : ℕ) where
   keep_agreed : (w : World) (e : Entry) → BothAgreed x own_a own_b w → RecordOk own_a (Of w.b) (journal_of w.a) e → is_legal w.a.node.desk.config.read (e ∷ journal_of w.a) ≡ true
@@ -404,19 +583,20 @@ module _ (x : At) (own_a own_b : Own) (sid : ℕ) where
       let journal : List Entry = journal_of w.a in
       let legal : is_legal read journal ≡ true = (legal_parts read e journal legal2).0 in
       let w2 : World = world_did x sid (Keep e) w in
-      let more : (key : Key) (o : Outcomes) → Of w.a key o → Of w2.a key o = λ key o is. outcome_stays read (e ∷ []) journal key o legal2 is in
+      let more : (m : Message) → Of w.a m → Of w2.a m = tells_stay read e journal legal2 (home_more own_a (Of w.b) journal e ok) in
       record {
         a = record {
           home = home_more own_a (Of w.b) journal e ok ∙ h.a.home;
           phases = h.a.phases;
           heard = h.a.heard;
+          stated = stated_kept x own_a (Of w.b) w.a.node.desk w.a.received w.notes e h.a.stated h.a.home legal2 ok;
           ended = ended_more own_a (Of w.b) read (journal_of w.b) journal h.a.home legal e legal2 ok (λ key o says. says) h.a.ended;
           plain = λ key. made_more own_a (Of w.b) journal e key ok (h.a.plain key);
           started = λ key. not_started_more own_a (Of w.b) journal e key ok (h.a.started key);
           landed = λ key. lands_more x read journal w.a.received w.notes h.a.plain h.a.started legal e key legal2
               (λ kind step try moment is. subst (λ (e2 : Entry). RecordOk own_a (Of w.b) journal e2) is ok) (h.a.landed key);
         };
-        b = noted (across x) own_b w.b w2.a w.notes w2.notes (others_landings x journal w.a.received w.notes e) (beside (across x) own_b w.b w.a w2.a w.notes more h.b);
+        b = noted (across x) own_b w.b w2.a w.notes w2.notes (others_landings x journal w.a.received w.notes e) (λ P all. others_each x P journal w.a.received w.notes e all) (beside (across x) own_b w.b w.a w2.a w.notes more h.b);
       }
 
   -- what a read adds is no landing
@@ -424,27 +604,33 @@ module _ (x : At) (own_a own_b : Own) (sid : ℕ) where
   read_landings y key None at bytes notes = refl
   read_landings y key (Some step) at bytes notes = refl
 
+  read_each : (y : At) (known : Option Key) (at : ℕ) (bytes : List ℕ) (notes : List Note) (P : Receiving → Type 0) → EachLanded y P notes → EachLanded y P (read_for x known at bytes notes)
+  read_each y None at bytes notes P all = all
+  read_each y (Some step) at bytes notes P all = all
+
   begin_agreed : (w : World) (key : Key) (phase : Phase) → BothAgreed x own_a own_b w → PhaseOk own_a (Of w.b) phase → BothAgreed x own_a own_b (world_did x sid (Begin key phase) w)
   begin_agreed w key phase h ok = record {
     a = record {
       home = h.a.home;
       phases = either_at (PhaseOk own_a (Of w.b)) sid phase w.a.node.sessions.phase ok h.a.phases;
       heard = h.a.heard;
+      stated = h.a.stated;
       ended = h.a.ended;
       plain = h.a.plain;
       started = h.a.started;
       landed = h.a.landed;
     };
-    b = beside (across x) own_b w.b w.a (world_did x sid (Begin key phase) w).a w.notes (λ step o is. is) h.b;
+    b = beside (across x) own_b w.b w.a (world_did x sid (Begin key phase) w).a w.notes (λ m is. is) h.b;
   }
 
-  go_agreed : (w : World) (phase : Phase) (frames : List Message) → BothAgreed x own_a own_b w → PhaseOk own_a (Of w.b) phase → AllSent own_a (Of w.b) (journal_of w.a) frames
+  go_agreed : (w : World) (phase : Phase) (frames : List Message) → BothAgreed x own_a own_b w → PhaseOk own_a (Of w.b) phase → AllTell own_a.read (journal_of w.a) frames
       → BothAgreed x own_a own_b (world_did x sid (Go phase frames) w)
   go_agreed w phase frames h ok sent_ok = record {
     a = record {
       home = h.a.home;
       phases = either_at (PhaseOk own_a (Of w.b)) sid phase w.a.node.sessions.phase ok h.a.phases;
       heard = heard_a (is_gone phase);
+      stated = h.a.stated;
       ended = h.a.ended;
       plain = h.a.plain;
       started = h.a.started;
@@ -453,21 +639,22 @@ module _ (x : At) (own_a own_b : Own) (sid : ℕ) where
     b = record {
       home = h.b.home;
       phases = h.b.phases;
-      heard = either_at (AllSent own_b (Of w.a) (journal_of w.a)) sid _ w.b.way (heard_b (w.b.ends sid)) h.b.heard;
+      heard = either_at (AllOf w.a) sid _ w.b.way (heard_b (w.b.ends sid)) h.b.heard;
+      stated = h.b.stated;
       ended = h.b.ended;
       plain = h.b.plain;
       started = h.b.started;
       landed = h.b.landed;
     };
   } where
-    heard_a : (b : Bool) (n : ℕ) → AllSent own_a (Of w.b) (journal_of w.b) (cond b (at_session sid [] w.a.way) w.a.way n)
-    heard_a true = either_at (AllSent own_a (Of w.b) (journal_of w.b)) sid [] w.a.way tt h.a.heard
+    heard_a : (b : Bool) (n : ℕ) → AllOf w.b (cond b (at_session sid [] w.a.way) w.a.way n)
+    heard_a true = either_at (AllOf w.b) sid [] w.a.way tt h.a.heard
     heard_a false = h.a.heard
 
-    heard_b : (b : Bool) → AllSent own_b (Of w.a) (journal_of w.a) (behind_them b (w.b.way sid) frames)
+    heard_b : (b : Bool) → AllOf w.a (behind_them b (w.b.way sid) frames)
     heard_b true = h.b.heard sid
-    heard_b false = all_sent_append own_b (Of w.a) (journal_of w.a) (w.b.way sid) frames (h.b.heard sid)
-        (all_sent_more own_a own_b (Of w.b) (Of w.a) (journal_of w.a) (journal_of w.a) (λ key o is. is) frames sent_ok)
+    heard_b false = all_tell_append w.a.node.desk.config.read (journal_of w.a) (w.b.way sid) frames (h.b.heard sid)
+        (subst (λ (read : Reading). AllTell read (journal_of w.a) frames) (sym h.a.stated.reads) sent_ok)
 
   -- deeds, one after another
   does_agreed : (deeds : List Deed) (w : World) → BothAgreed x own_a own_b w → AllFit own_a (Of w.b) (journal_of w.a) deeds
@@ -481,25 +668,25 @@ module _ (x : At) (own_a own_b : Own) (sid : ℕ) where
   does_agreed (Touch change ∷ deeds) w h fit legal =
       let w2 : World = world_did x sid (Touch change) w in
       does_agreed deeds w2 (record {
-        a = record { home = h.a.home; phases = h.a.phases; heard = h.a.heard; ended = h.a.ended; plain = h.a.plain; started = h.a.started; landed = h.a.landed };
-        b = beside (across x) own_b w.b w.a w2.a w.notes (λ key o is. is) h.b;
+        a = record { home = h.a.home; phases = h.a.phases; heard = h.a.heard; ended = h.a.ended; plain = h.a.plain; started = h.a.started; landed = h.a.landed; stated = h.a.stated };
+        b = beside (across x) own_b w.b w.a w2.a w.notes (λ m is. is) h.b;
       }) fit legal
   does_agreed (AskSize name ∷ deeds) w h fit legal =
       let w2 : World = world_did x sid (AskSize name) w in
       does_agreed deeds w2 (record {
-        a = noted x own_a w.a w.b w.notes w2.notes (λ key. refl) h.a;
-        b = noted (across x) own_b w.b w.a w.notes w2.notes (λ key. refl) h.b;
+        a = noted x own_a w.a w.b w.notes w2.notes (λ key. refl) (λ P all. all) h.a;
+        b = noted (across x) own_b w.b w.a w.notes w2.notes (λ key. refl) (λ P all. all) h.b;
       }) fit legal
   does_agreed (AskBytes name at len ∷ deeds) w h fit legal =
       let w2 : World = world_did x sid (AskBytes name at len) w in
       does_agreed deeds w2 (record {
-        a = noted x own_a w.a w.b w.notes w2.notes (λ key. read_landings x key _ at _ w.notes) h.a;
-        b = noted (across x) own_b w.b w.a w.notes w2.notes (λ key. read_landings (across x) key _ at _ w.notes) h.b;
+        a = noted x own_a w.a w.b w.notes w2.notes (λ key. read_landings x key _ at _ w.notes) (read_each x _ at _ w.notes) h.a;
+        b = noted (across x) own_b w.b w.a w.notes w2.notes (λ key. read_landings (across x) key _ at _ w.notes) (read_each (across x) _ at _ w.notes) h.b;
       }) fit legal
   does_agreed (Begin key phase ∷ deeds) w h fit legal = does_agreed deeds (world_did x sid (Begin key phase) w) (begin_agreed w key phase h fit.0) fit.1 legal
   does_agreed (Go phase frames ∷ deeds) w h fit legal = does_agreed deeds (world_did x sid (Go phase frames) w) (go_agreed w phase frames h fit.0 fit.1) fit.2 legal
 
-fit_first : (own : Own) (Says : Key → Outcomes → Type 0) (done more : List Deed) (journal : List Entry) → AllFit own Says journal (done ++ more) → AllFit own Says journal done
+fit_first : (own : Own) (Says : Message → Type 0) (done more : List Deed) (journal : List Entry) → AllFit own Says journal (done ++ more) → AllFit own Says journal done
 fit_first own Says [] more journal fit = tt
 fit_first own Says (Keep e ∷ done) more journal fit = (fit.0, fit_first own Says done more (e ∷ journal) fit.1)
 fit_first own Says (Touch change ∷ done) more journal fit = fit_first own Says done more journal fit
@@ -509,10 +696,6 @@ fit_first own Says (Begin key phase ∷ done) more journal fit = (fit.0, fit_fir
 fit_first own Says (Go phase frames ∷ done) more journal fit = (fit.0, fit.1, fit_first own Says done more journal fit.2)
 
 -- Events.
-
-heard_ok : (own : Own) (other : Half) (m : Message) → SentOk own (Of other) (journal_of other) m → HeardOk own (Of other) m
-heard_ok own other (message.Result key o) h = h
-heard_ok own other m h = tt
 
 -- a task begins in such a world, and its deeds fit
 record FitsTask (x : At) (own_a own_b : Own) (t : Task) : Type 0 where
@@ -530,7 +713,8 @@ module _ (x : At) (own_a own_b : Own) (w : World) (h : BothAgreed x own_a own_b 
       a = record {
         home = h.a.home;
         phases = h.a.phases;
-        heard = either_at (AllSent own_a (Of w.b) (journal_of w.b)) w.sessions [] w.a.way tt h.a.heard;
+        heard = either_at (AllOf w.b) w.sessions [] w.a.way tt h.a.heard;
+        stated = h.a.stated;
         ended = h.a.ended;
         plain = h.a.plain;
         started = h.a.started;
@@ -539,7 +723,8 @@ module _ (x : At) (own_a own_b : Own) (w : World) (h : BothAgreed x own_a own_b 
       b = record {
         home = h.b.home;
         phases = h.b.phases;
-        heard = either_at (AllSent own_b (Of w.a) (journal_of w.a)) w.sessions [] w.b.way tt h.b.heard;
+        heard = either_at (AllOf w.a) w.sessions [] w.b.way tt h.b.heard;
+        stated = h.b.stated;
         ended = h.b.ended;
         plain = h.b.plain;
         started = h.b.started;
@@ -550,19 +735,20 @@ module _ (x : At) (own_a own_b : Own) (w : World) (h : BothAgreed x own_a own_b 
   }
 
   -- the first node changed, but for its desk, its phases and what was sent to it
-  with_a : (a2 : Half) → a2.node.desk ≡ w.a.node.desk → ((n : ℕ) → PhaseOk own_a (Of w.b) (a2.node.sessions.phase n)) → ((n : ℕ) → AllSent own_a (Of w.b) (journal_of w.b) (a2.way n))
+  with_a : (a2 : Half) → a2.node.desk ≡ w.a.node.desk → ((n : ℕ) → PhaseOk own_a (Of w.b) (a2.node.sessions.phase n)) → ((n : ℕ) → AllOf w.b (a2.way n))
       → BothAgreed x own_a own_b (record w { a = a2 })
   with_a a2 same phases heard = record {
     a = record {
-      home = subst (λ (d : Desk). own_home d.journal ≡ own_a) (sym same) h.a.home;
+      home = subst (λ (d : Desk). own_home d.journal ≡ own_a.home) (sym same) h.a.home;
       phases = phases;
       heard = heard;
+      stated = subst (λ (d : Desk). AllStated x own_a d (Of w.b) w.notes) (sym same) h.a.stated;
       ended = subst (λ (d : Desk). EachEnded (EndedKept d.config.read (journal_of w.b)) d.journal) (sym same) h.a.ended;
       plain = subst (λ (d : Desk). (key : Key) → made_for d.journal key ≡ None) (sym same) h.a.plain;
       started = subst (λ (d : Desk). (key : Key) → NotStarted (status.status d.journal key)) (sym same) h.a.started;
       landed = subst (λ (d : Desk). (key : Key) → LandOk (status.status d.journal key) (landings x key w.notes)) (sym same) h.a.landed;
     };
-    b = beside (across x) own_b w.b w.a a2 w.notes (subst (λ (d : Desk). (key : Key) (o : Outcomes) → Of w.a key o → outcome d.journal key ≡ Some o) (sym same) (λ key o is. is)) h.b;
+    b = beside (across x) own_b w.b w.a a2 w.notes (subst (λ (d : Desk). (m : Message) → Of w.a m → Tells d.config.read d.journal m) (sym same) (λ m is. is)) h.b;
   }
 
   called_fits : (calls : List ℕ) → FitsTask x own_a own_b (called w calls)
@@ -572,12 +758,12 @@ module _ (x : At) (own_a own_b : Own) (w : World) (h : BothAgreed x own_a own_b 
   came_fits : (sid : ℕ) (answers : Answers) (frames : List Message) → w.a.way sid ≡ frames → FitsTask x own_a own_b (came w sid answers frames)
   came_fits sid answers [] is = nothing_fits
   came_fits sid answers (m ∷ more) is =
-      let first : AllSent own_a (Of w.b) (journal_of w.b) (m ∷ more) = subst (AllSent own_a (Of w.b) (journal_of w.b)) is (h.a.heard sid) in
+      let first : AllOf w.b (m ∷ more) = subst (AllOf w.b) is (h.a.heard sid) in
       record {
-        agreed = with_a (came w sid answers (m ∷ more)).world.a refl h.a.phases (either_at (AllSent own_a (Of w.b) (journal_of w.b)) sid more w.a.way first.1 h.a.heard);
-        fit = row_ok own_a (Of w.b) w.a.node sid (answers_now w answers) m h.a.home
+        agreed = with_a (came w sid answers (m ∷ more)).world.a refl h.a.phases (either_at (AllOf w.b) sid more w.a.way first.1 h.a.heard);
+        fit = row_ok own_a (Of w.b) w.a.node sid (answers_now w answers) m h.a.home h.a.stated.reads
             (λ key r safe is_open. (openings.open-on w.a.node.desk.config.read (journal_of w.a) key r safe sound.a.legal is_open).0)
-            (h.a.phases sid) (heard_ok own_a w.b m first.0);
+            (h.a.phases sid) first.0;
       }
 
   ended_fits : (sid : ℕ) (b : Bool) (frames : List Message) → FitsTask x own_a own_b (ended w sid b frames)
@@ -639,43 +825,44 @@ faulted_agreed x own_a own_b w h sound happening k cut =
 module _ (x : At) (own_a own_b : Own) (w : World) (h : BothAgreed x own_a own_b w) where
   down_agreed : (image : shelves.FileMap) → BothAgreed x own_a own_b (down image w)
   down_agreed image = record {
-    a = record { home = h.a.home; phases = λ n. tt; heard = λ n. tt; ended = h.a.ended; plain = h.a.plain; started = h.a.started; landed = h.a.landed };
-    b = record { home = h.b.home; phases = h.b.phases; heard = h.b.heard; ended = h.b.ended; plain = h.b.plain; started = h.b.started; landed = h.b.landed };
+    a = record { home = h.a.home; phases = λ n. tt; heard = λ n. tt; ended = h.a.ended; plain = h.a.plain; started = h.a.started; landed = h.a.landed; stated = h.a.stated };
+    b = record { home = h.b.home; phases = h.b.phases; heard = h.b.heard; ended = h.b.ended; plain = h.b.plain; started = h.b.started; landed = h.b.landed; stated = h.b.stated };
   }
 
   -- the first node changed, but for its desk and its phases, and no more frames are on the way to it
-  changed_agreed : (a2 : Half) (clock : ℕ) → a2.node.desk ≡ w.a.node.desk → a2.node.sessions ≡ w.a.node.sessions → ((n : ℕ) → AllSent own_a (Of w.b) (journal_of w.b) (a2.way n))
+  changed_agreed : (a2 : Half) (clock : ℕ) → a2.node.desk ≡ w.a.node.desk → a2.node.sessions ≡ w.a.node.sessions → ((n : ℕ) → AllOf w.b (a2.way n))
       → BothAgreed x own_a own_b (record w { a = a2; clock = clock })
   changed_agreed a2 clock same sessions heard = record {
     a = record {
-      home = subst (λ (d : Desk). own_home d.journal ≡ own_a) (sym same) h.a.home;
+      home = subst (λ (d : Desk). own_home d.journal ≡ own_a.home) (sym same) h.a.home;
       phases = subst (λ (s : Sessions). (n : ℕ) → PhaseOk own_a (Of w.b) (s.phase n)) (sym sessions) h.a.phases;
       heard = heard;
+      stated = subst (λ (d : Desk). AllStated x own_a d (Of w.b) w.notes) (sym same) h.a.stated;
       ended = subst (λ (d : Desk). EachEnded (EndedKept d.config.read (journal_of w.b)) d.journal) (sym same) h.a.ended;
       plain = subst (λ (d : Desk). (key : Key) → made_for d.journal key ≡ None) (sym same) h.a.plain;
       started = subst (λ (d : Desk). (key : Key) → NotStarted (status.status d.journal key)) (sym same) h.a.started;
       landed = subst (λ (d : Desk). (key : Key) → LandOk (status.status d.journal key) (landings x key w.notes)) (sym same) h.a.landed;
     };
-    b = beside (across x) own_b w.b w.a a2 w.notes (subst (λ (d : Desk). (key : Key) (o : Outcomes) → Of w.a key o → outcome d.journal key ≡ Some o) (sym same) (λ key o is. is)) h.b;
+    b = beside (across x) own_b w.b w.a a2 w.notes (subst (λ (d : Desk). (m : Message) → Of w.a m → Tells d.config.read d.journal m) (sym same) (λ m is. is)) h.b;
   }
 
   started_agreed : (b : Bool) → BothAgreed x own_a own_b (cond b w (record w { a = record w.a { node = record w.a.node { sessions = no_sessions }; up = true; received = marked w.a.node.desk.journal w.a.received } }))
   started_agreed true = h
   started_agreed false = record {
-    a = record { home = h.a.home; phases = λ n. tt; heard = h.a.heard; ended = h.a.ended; plain = h.a.plain; started = h.a.started; landed = h.a.landed };
-    b = record { home = h.b.home; phases = h.b.phases; heard = h.b.heard; ended = h.b.ended; plain = h.b.plain; started = h.b.started; landed = h.b.landed };
+    a = record { home = h.a.home; phases = λ n. tt; heard = h.a.heard; ended = h.a.ended; plain = h.a.plain; started = h.a.started; landed = h.a.landed; stated = h.a.stated };
+    b = record { home = h.b.home; phases = h.b.phases; heard = h.b.heard; ended = h.b.ended; plain = h.b.plain; started = h.b.started; landed = h.b.landed; stated = h.b.stated };
   }
 
   lost_agreed : (sid k : ℕ) → BothAgreed x own_a own_b (world_lost sid k w)
   lost_agreed sid k =
       changed_agreed (world_lost sid k w).a w.clock refl refl
-      (either_at (AllSent own_a (Of w.b) (journal_of w.b)) sid (take k (w.a.way sid)) w.a.way (all_sent_take own_a (Of w.b) (journal_of w.b) k (w.a.way sid) (h.a.heard sid)) h.a.heard)
+      (either_at (AllOf w.b) sid (take k (w.a.way sid)) w.a.way (all_tell_take w.b.node.desk.config.read (journal_of w.b) k (w.a.way sid) (h.a.heard sid)) h.a.heard)
 
   written_agreed : (name bytes : List ℕ) → BothAgreed x own_a own_b (world_written x name bytes w)
   written_agreed name bytes =
       let done : BothAgreed x own_a own_b (record w { a = (world_written x name bytes w).a }) = changed_agreed (world_written x name bytes w).a w.clock refl refl h.a.heard in
       let notes : List Note = Wrote x name bytes ∷ w.notes in
-      record { a = noted x own_a (world_written x name bytes w).a w.b w.notes notes (λ key. refl) done.a; b = noted (across x) own_b w.b (world_written x name bytes w).a w.notes notes (λ key. refl) done.b }
+      record { a = noted x own_a (world_written x name bytes w).a w.b w.notes notes (λ key. refl) (λ P all. all) done.a; b = noted (across x) own_b w.b (world_written x name bytes w).a w.notes notes (λ key. refl) (λ P all. all) done.b }
 
   later_agreed : (seconds : ℕ) → BothAgreed x own_a own_b (later seconds w)
   later_agreed seconds = changed_agreed w.a (w.clock + seconds) refl refl h.a.heard
@@ -743,20 +930,29 @@ pub fresh_first : (name : List ℕ) (home : ℕ) (key : Key) → status.status (
 unfolding status.status
 fresh_first name home key = refl
 
-new_agreed : (x : At) (name : List ℕ) (home : ℕ) (half other : Half) (notes : List Note) → notes ≡ [] → IsNew name home half → Agreed x (Some (name, home)) half other notes
+-- a node that has recorded its home alone
+abbrev pub new_own : List ℕ → ℕ → Half → Own
+new_own name home half = record { home = Some (name, home); read = half.node.desk.config.read }
+
+new_agreed : (x : At) (name : List ℕ) (home : ℕ) (half other : Half) (notes : List Note) → notes ≡ [] → IsNew name home half → Agreed x (new_own name home half) half other notes
 new_agreed x name home half other notes none new =
     let fresh : (key : Key) → status.status (journal_of half) key ≡ status.Fresh = λ key. ap (λ (journal : List Entry). status.status journal key) new.journal ∙ fresh_first name home key in
     record {
       home = ap own_home new.journal ∙ home_first name home;
-      phases = subst (λ (s : Sessions). (n : ℕ) → PhaseOk (Some (name, home)) (Of other) (s.phase n)) (sym new.sessions) (λ n. tt);
-      heard = subst (λ (way : ℕ → List Message). (n : ℕ) → AllSent (Some (name, home)) (Of other) (journal_of other) (way n)) (sym new.way) (λ n. tt);
+      phases = subst (λ (s : Sessions). (n : ℕ) → PhaseOk (new_own name home half) (Of other) (s.phase n)) (sym new.sessions) (λ n. tt);
+      heard = subst (λ (way : ℕ → List Message). (n : ℕ) → AllOf other (way n)) (sym new.way) (λ n. tt);
+      stated = record {
+        reads = refl;
+        each = subst (EachReceiving (StatedBy (new_own name home half) (journal_of half) (Of other))) (sym new.journal) tt;
+        noted = subst (EachLanded x (StatedBy (new_own name home half) (journal_of half) (Of other))) (sym none) tt;
+      };
       ended = subst (λ (journal : List Entry). EachEnded (EndedKept half.node.desk.config.read (journal_of other)) journal) (sym new.journal) tt;
       plain = λ key. ap (λ (journal : List Entry). made_for journal key) new.journal ∙ made_first name home key;
       started = λ key. subst NotStarted (sym (fresh key)) tt;
       landed = λ key. subst (λ (s : Status). LandOk s (landings x key notes)) (sym (fresh key)) (ap (landings x key) none);
     }
 
-pub first_agreed : (w : World) (first : IsFirst w) → BothAgreed A (Some (first.name_a, first.home_a)) (Some (first.name_b, first.home_b)) w
+pub first_agreed : (w : World) (first : IsFirst w) → BothAgreed A (new_own first.name_a first.home_a w.a) (new_own first.name_b first.home_b w.b) w
 first_agreed w first = record {
   a = new_agreed A first.name_a first.home_a w.a w.b w.notes first.notes first.a;
   b = new_agreed B first.name_b first.home_b w.b w.a w.notes first.notes first.b;
@@ -827,12 +1023,12 @@ module _ (x : At) (read : Reading) (whole other : List Entry) (notes : List Note
 
 pub events_results : (w : World) (events : List Event) → IsFirst w → ArePossible w events → HaveResults (after w events)
 events_results w events first possible =
-    let h : BothAgreed A (Some (first.name_a, first.home_a)) (Some (first.name_b, first.home_b)) (after w events) = after_agreed _ _ w events (first_agreed w first) (first_sound w first) in
+    let h : BothAgreed A (new_own first.name_a first.home_a w.a) (new_own first.name_b first.home_b w.b) (after w events) = after_agreed _ _ w events (first_agreed w first) (first_sound w first) in
     record { a = results_of A _ (after w events).a (after w events).b (after w events).notes h.a; b = results_of B _ (after w events).b (after w events).a (after w events).notes h.b }
 
 pub events_land : (w : World) (events : List Event) → IsFirst w → ArePossible w events → HaveLanded (after w events)
 events_land w events first possible =
-    let h : BothAgreed A (Some (first.name_a, first.home_a)) (Some (first.name_b, first.home_b)) (after w events) = after_agreed _ _ w events (first_agreed w first) (first_sound w first) in
+    let h : BothAgreed A (new_own first.name_a first.home_a w.a) (new_own first.name_b first.home_b w.b) (after w events) = after_agreed _ _ w events (first_agreed w first) (first_sound w first) in
     let grown : BothGrown w (after w events) = after_grown w events (first_sound w first) in
     let v : World = after w events in
     record {

@@ -1,5 +1,5 @@
 -- What holds in every world that two nodes come to.
-use Rattle.std.specs.Prelude.{◌≡◌, ℕ, ◌+◌, List, [], ◌∷◌, ◌++◌, length, take, drop, Bool, true, false, ◌&&◌, Option, Some, None, if◌then◌else◌}
+use Rattle.std.specs.Prelude.{◌≡◌, ◌⊎◌, ℕ, ◌+◌, List, [], ◌∷◌, ◌++◌, length, take, drop, Bool, true, false, ◌&&◌, Option, Some, None, if◌then◌else◌}
 use Rattle.std.specs.List.{list_any}
 use Rattle.std.specs.Str.{bytes_eq}
 use Rattle.cd_outside.specs.Disposition.{landed, dropped}
@@ -18,6 +18,7 @@ use Rattle.cd_status.specs.Processes.{own_home}
 use Rattle.cd_status.specs.Status.{outcome, mark}
 use Rattle.cd_legal.specs.Legal.{is_legal}
 use Rattle.cd_legal.specs.Steps.{Reading, what_at, is_such, pnode_keeps}
+use Rattle.cd_moves.specs.Sending.{interval_of}
 use Rattle.cd_world.specs.World.{At, A, B, across, Note, Sized, Read, Began, Landed, Dropped, Wrote, Half, World, Unless}
 
 -- Journals.
@@ -73,6 +74,41 @@ pub record HaveResults (w : World) : Type 0 where
   pub a : EachEnded (EndsAsKept w.a.node.desk.config.read (journal_of w.b)) (journal_of w.a)
   pub b : EachEnded (EndsAsKept w.b.node.desk.config.read (journal_of w.a)) (journal_of w.b)
 
+-- Statements.
+
+-- a receiving has the name, the disposition and the interval of a COPY
+pub record IsAs (step : CopyStep) (r : Receiving) : Type 0 where
+  pub name : r.name ≡ step.to
+  pub disp : r.disp ≡ step.disp
+  pub interval : r.interval ≡ interval_of step.ckpt
+
+-- it is as the COPY of its key's number and place in this journal, which is a push or a pull
+pub record IsStated (read : Reading) (journal : List Entry) (push : Bool) (r : Receiving) : Type 0 where
+  pub step : CopyStep
+  pub stands : what_at read journal r.key.number r.key.place ≡ Some (what.Copy step)
+  pub way : step.push ≡ push
+  pub same : IsAs step r
+
+-- a step of a Process of the node with this journal
+abbrev pub IsStepOf : List Entry → Key → Type 0
+IsStepOf journal key = own_home journal ≡ Some (key.pnode, key.home)
+
+-- what a node receives is for a Process of its own, and as a pull of it, or for one of the other node, and as a push of it
+abbrev pub AsStated : Half → Half → Receiving → Type 0
+AsStated here there r =
+    (IsStepOf (journal_of here) r.key × IsStated here.node.desk.config.read (journal_of here) false r)
+    ⊎ (IsStepOf (journal_of there) r.key × IsStated there.node.desk.config.read (journal_of there) true r)
+
+-- each Receiving of a journal
+abbrev pub EachReceiving : (Receiving → Type 0) → List Entry → Type 0
+EachReceiving P [] = Unit {0}
+EachReceiving P (entry.Receiving r ∷ journal) = P r × EachReceiving P journal
+EachReceiving P (e ∷ journal) = EachReceiving P journal
+
+pub record HaveStatements (w : World) : Type 0 where
+  pub a : EachReceiving (AsStated w.a w.b) (journal_of w.a)
+  pub b : EachReceiving (AsStated w.b w.a) (journal_of w.b)
+
 -- Landings.
 
 abbrev pub is_at : At → At → Bool
@@ -106,6 +142,33 @@ LandsOnce x read notes journal n place rc why bytes =
 pub record HaveLanded (w : World) : Type 0 where
   pub a : EachEnded (LandsOnce A w.a.node.desk.config.read w.notes) (journal_of w.a)
   pub b : EachEnded (LandsOnce B w.b.node.desk.config.read w.notes) (journal_of w.b)
+
+-- the landings of a step at a node as they were noted, the newest first
+abbrev pub noted_landings : At → Key → List Note → List Note
+noted_landings x key [] = []
+noted_landings x key (Landed y r got ∷ notes) =
+    if is_at x y && same_key key r.key then Landed y r got ∷ noted_landings x key notes else noted_landings x key notes
+noted_landings x key (Sized y name size ∷ notes) = noted_landings x key notes
+noted_landings x key (Read y step at bytes ∷ notes) = noted_landings x key notes
+noted_landings x key (Began y r ∷ notes) = noted_landings x key notes
+noted_landings x key (Dropped y r ∷ notes) = noted_landings x key notes
+noted_landings x key (Wrote y name bytes ∷ notes) = noted_landings x key notes
+
+-- it is one, of a receiving as this COPY
+pub record IsOneAs (x : At) (step : CopyStep) (noted : List Note) : Type 0 where
+  pub r : Receiving
+  pub got : List ℕ
+  pub is : noted ≡ Landed x r got ∷ []
+  pub same : IsAs step r
+
+-- a COPY that ended with 0 landed once where it was received, with the name, the disposition and the interval of its statement
+abbrev pub LandsAsStated : At → Reading → List Note → List Entry → ℕ → ℕ → ℕ → Cause → ℕ → Type 0
+LandsAsStated x read notes journal n place rc why bytes =
+    (key : Key) (step : CopyStep) → IsOwnStep journal n place key → what_at read journal n place ≡ Some (what.Copy step) → rc ≡ 0 → IsOneAs (keeper x step) step (noted_landings (keeper x step) key notes)
+
+pub record HaveCopied (w : World) : Type 0 where
+  pub a : EachEnded (LandsAsStated A w.a.node.desk.config.read w.notes) (journal_of w.a)
+  pub b : EachEnded (LandsAsStated B w.b.node.desk.config.read w.notes) (journal_of w.b)
 
 -- Sources.
 

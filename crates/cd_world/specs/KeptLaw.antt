@@ -1,12 +1,14 @@
--- In a legal journal a node has outcomes of its own steps only where it is their keeper.
-use Rattle.std.proofs.Common.{◌≡◌, ℕ, Bool, true, ◌&&◌, eqb, leb, List, [], ◌∷◌, Option, Some, None, inl, inr, refl, sym, ◌∙◌, ap, subst}
+-- In a legal journal a node has outcomes of its own steps only where it is their keeper, and receives for them what they say.
+use Rattle.std.proofs.Common.{◌≡◌, ℕ, Bool, true, false, ◌&&◌, eqb, leb, List, [], ◌∷◌, Option, Some, None, inl, inr, refl, sym, ◌∙◌, ap, subst}
 use Rattle.std.specs.Prelude.{◌+◌, not, slice_get}
 use Rattle.std.specs.Str.{bytes_eq}
-use Rattle.std.proofs.lemmas.Bool.{cases_Bool, and_parts, or_cases, false≢true, eq-eqb, and_from}
+use Rattle.std.proofs.lemmas.Bool.{cases_Bool, and_parts, or_cases, false≢true, eq-eqb, eqb-true, and_from}
 use Rattle.std.proofs.lemmas.Slice.Eq.{bytes_eq-Decides}
 use Rattle.cd_types.specs.Choices.{disp_code}
 use Rattle.cd_types.specs.Format.{◌>>=◌}
 use Rattle.cd_types.specs.declared.choices.Cause.{Cause}
+use Rattle.cd_types.specs.declared.choices.Disp.{Disp}
+use Rattle.cd_types.specs.declared.choices.Disp.TheVariants as disp
 use Rattle.cd_types.specs.declared.choices.TaskKind.{TaskKind}
 use Rattle.cd_types.specs.declared.key.Key.{Key}
 use Rattle.cd_types.specs.declared.rows.Outcomes.{Outcomes}
@@ -26,12 +28,24 @@ use Rattle.cd_legal.specs.Legal.{is_legal, is_empty, may_follow, may_receive_fro
 use Rattle.cd_legal.specs.LegalLaw.{legal_parts, follows}
 use Rattle.cd_legal.specs.NumbersLaw as numbers
 use Rattle.cd_legal.specs.Steps.{Reading, what_of, what_at, stmts_in, next_place, is_such, pnode_keeps, fits_own, is_pull_of, is_interval}
+use Rattle.cd_moves.specs.Sending.{interval_of}
+use Rattle.cd_world.specs.Holds.{IsStated}
 
 -- a step that is being received, or has its outcome
 abbrev IsKept : Status → Type 0
 IsKept (status.Open r safe) = Unit {0}
 IsKept (status.Done o) = Unit {0}
 IsKept _ = ⊥
+
+-- a statement of a submitted Process stays
+pub statement_stays : (read : Reading) (e : Entry) (journal : List Entry) (n place : ℕ) (w : What) → is_legal read (e ∷ journal) ≡ true → what_at read journal n place ≡ Some w
+    → what_at read (e ∷ journal) n place ≡ Some w
+statement_stays read e journal n place w legal is = by_found (submission journal n) refl is where
+  by_found : (found : Option Submission) → submission journal n ≡ found → what_of (slice_get (stmts_in (found >>= (λ s. read s.text))) place) ≡ Some w → what_at read (e ∷ journal) n place ≡ Some w
+  by_found None is there = absurd cc
+  by_found (Some s) is there =
+      let stays : submission (e ∷ journal) n ≡ Some s = numbers.submission_stays read (e ∷ []) journal n s legal is in
+      subst (λ (found : Option Submission). what_of (slice_get (stmts_in (found >>= (λ s. read s.text))) place) ≡ Some w) (sym stays) there
 
 -- what a submitted Process says stays
 pub what_stays : (read : Reading) (e : Entry) (journal : List Entry) (n place : ℕ) (test : What → Bool) → is_legal read (e ∷ journal) ≡ true → is_such test (what_at read journal n place) ≡ true
@@ -43,6 +57,18 @@ what_stays read e journal n place test legal such = by_found (submission journal
   by_found (Some s) is there =
       let stays : submission (e ∷ journal) n ≡ Some s = numbers.submission_stays read (e ∷ []) journal n s legal is in
       subst (λ (found : Option Submission). is_such test (what_of (slice_get (stmts_in (found >>= (λ s. read s.text))) place)) ≡ true) (sym stays) there
+
+-- one disposition
+pub disp_same : (a b : Disp) → eqb (disp_code a) (disp_code b) ≡ true → a ≡ b
+disp_same disp.New disp.New is = refl
+disp_same disp.New disp.Rpl is = absurd (false≢true is)
+disp_same disp.New disp.Mod is = absurd (false≢true is)
+disp_same disp.Rpl disp.New is = absurd (false≢true is)
+disp_same disp.Rpl disp.Rpl is = refl
+disp_same disp.Rpl disp.Mod is = absurd (false≢true is)
+disp_same disp.Mod disp.New is = absurd (false≢true is)
+disp_same disp.Mod disp.Rpl is = absurd (false≢true is)
+disp_same disp.Mod disp.Mod is = refl
 
 fits_such : (read : Reading) (journal : List Entry) (key : Key) (test : What → Bool) → is_own journal key ≡ true → fits_own read journal key test ≡ true
     → is_such test (what_at read journal key.number key.place) ≡ true
@@ -148,9 +174,42 @@ some_kept (status.Started tries kind) o is = absurd cc
 some_kept (status.Open r safe) o is = tt
 some_kept (status.Done before) o is = tt
 
+own_by : (journal : List Entry) (key : Key) → own_home journal ≡ Some (key.pnode, key.home) → is_own journal key ≡ true
+own_by journal key home =
+    ap (is_home_of key.pnode key.home) home ∙ and_from (bytes_eq key.pnode key.pnode) (eqb key.home key.home) ((bytes_eq-Decides key.pnode key.pnode).1 refl) (eq-eqb key.home key.home refl)
+
 pub outcome_kept : (read : Reading) (journal : List Entry) (key : Key) (o : Outcomes) → is_legal read journal ≡ true → own_home journal ≡ Some (key.pnode, key.home) → outcome journal key ≡ Some o
     → is_such pnode_keeps (what_at read journal key.number key.place) ≡ true
 outcome_kept read journal key o legal home is =
-    kept_by read journal key legal
-    (ap (is_home_of key.pnode key.home) home ∙ and_from (bytes_eq key.pnode key.pnode) (eqb key.home key.home) ((bytes_eq-Decides key.pnode key.pnode).1 refl) (eq-eqb key.home key.home refl))
+    kept_by read journal key legal (own_by journal key home)
     (some_kept (status.status journal key) o (sym (outcome-status journal key) ∙ is))
+
+-- What is received for an own step is as its statement, a pull.
+
+stated_pull : (read : Reading) (journal : List Entry) (r : Receiving) (w : Option What) → what_at read journal r.key.number r.key.place ≡ w → is_such (is_pull_of r) w ≡ true → IsStated read journal false r
+stated_pull read journal r None is such = absurd (false≢true such)
+stated_pull read journal r (Some (what.Copy step)) is such =
+    let three = and_parts (not step.push && bytes_eq r.name step.to && eqb (disp_code r.disp) (disp_code step.disp)) (is_interval r.interval step.ckpt) such in
+    let two = and_parts (not step.push && bytes_eq r.name step.to) (eqb (disp_code r.disp) (disp_code step.disp)) three.0 in
+    let one = and_parts (not step.push) (bytes_eq r.name step.to) two.0 in
+    record {
+      step = step;
+      stands = is;
+      way = is_pull step.push one.0;
+      same = record { name = (bytes_eq-Decides r.name step.to).0 one.1; disp = disp_same r.disp step.disp two.1; interval = interval_is r.interval step.ckpt three.1 };
+    }
+  where
+    is_pull : (b : Bool) → not b ≡ true → b ≡ false
+    is_pull true fits = absurd (false≢true fits)
+    is_pull false fits = refl
+
+    interval_is : (interval : ℕ) (known : Option ℕ) → is_interval interval known ≡ true → interval ≡ interval_of known
+    interval_is interval None fits = absurd (false≢true fits)
+    interval_is interval (Some own) fits = eqb-true interval own fits
+stated_pull read journal r (Some w) is such = absurd (false≢true such)
+
+pub receiving_stated : (read : Reading) (journal : List Entry) (r : Receiving) → is_legal read (entry.Receiving r ∷ journal) ≡ true → own_home journal ≡ Some (r.key.pnode, r.key.home) → IsStated read journal false r
+receiving_stated read journal r legal home =
+    let fits = follows read (entry.Receiving r) journal legal in
+    let last = and_parts (may_receive_from (status.status journal r.key) r && not (is_over journal r.key) && not (is_in_use journal r.key r.name) && is_base_of r.disp r.there r.base && leb (r.base + r.length) greatest_file) (fits_own read journal r.key (is_pull_of r)) fits in
+    stated_pull read journal r (what_at read journal r.key.number r.key.place) refl (fits_such read journal r.key (is_pull_of r) (own_by journal r.key home) last.1)

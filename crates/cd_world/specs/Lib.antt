@@ -11,6 +11,7 @@ pub mod LeftLaw
 pub mod PiecesLaw
 pub mod SourcesLaw
 pub mod StandsLaw
+pub mod StatedLaw
 pub mod WholeLaw
 pub mod Worked
 pub mod World

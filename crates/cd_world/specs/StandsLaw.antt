@@ -13,7 +13,6 @@ use Rattle.cd_types.specs.Choices.{disp_code}
 use Rattle.cd_types.specs.Compound.{flag}
 use Rattle.cd_types.specs.declared.choices.Cause.{Cause}
 use Rattle.cd_types.specs.declared.choices.Disp.{Disp}
-use Rattle.cd_types.specs.declared.choices.Disp.TheVariants as disp
 use Rattle.cd_types.specs.declared.key.Key.{Key}
 use Rattle.cd_types.specs.declared.rows.Outcomes.{Outcomes}
 use Rattle.cd_types.specs.declared.rows.Receiving.{Receiving}
@@ -42,6 +41,7 @@ use Rattle.cd_world.specs.FilesLaw.{IsSafe, KeepsSafe, doubt_after, NotSpoiled, 
 use Rattle.cd_world.specs.GuardsLaw.{over_start}
 use Rattle.cd_world.specs.Holds.{journal_of, Begins}
 use Rattle.cd_world.specs.World.{At, Half, World, written_for, written_by, readied, landed_by, dropped_by, world_did, world_does, Cut, Unchanged, Begun, cut_off, MayLeave, IsCutOff, with_shelf, IsLeft, down}
+use Rattle.cd_world.specs.KeptLaw.{disp_same}
 use Rattle.cd_world.specs.SourcesLaw.{readied_apart}
 use Rattle.cd_world.specs.FrontsLaw.{length_over}
 use Rattle.cd_world.specs.PiecesLaw.{NotTaking, OfOpen, Frees, GoodKeep, Brought, Under, GoodChange, AllTrue, RestsOn, GoesOn, AllGood, rests_in, rests_behind, rested}
@@ -164,17 +164,6 @@ same_file : (a a2 : Half) (r : Receiving) → a2.received r.key ≡ a.received r
 same_file a a2 r got clean old seen doubt = record { got = got; file = λ c. (clean c, old, seen, doubt) }
 
 -- Entries.
-
-disp_same : (a b : Disp) → eqb (disp_code a) (disp_code b) ≡ true → a ≡ b
-disp_same disp.New disp.New is = refl
-disp_same disp.New disp.Rpl is = absurd (false≢true is)
-disp_same disp.New disp.Mod is = absurd (false≢true is)
-disp_same disp.Rpl disp.New is = absurd (false≢true is)
-disp_same disp.Rpl disp.Rpl is = refl
-disp_same disp.Rpl disp.Mod is = absurd (false≢true is)
-disp_same disp.Mod disp.New is = absurd (false≢true is)
-disp_same disp.Mod disp.Rpl is = absurd (false≢true is)
-disp_same disp.Mod disp.Mod is = refl
 
 -- the same receiving with another length
 record IsAgain (before r : Receiving) : Type 0 where

@@ -3,12 +3,14 @@
 use Rattle.std.specs.Prelude.{ℕ, List, [], ◌∷◌, codes, Option, Some, None, true, false, if◌then◌else◌}
 use Rattle.std.specs.Str.{bytes_eq}
 use Rattle.cd_types.specs.declared.card.Filed.{Filed}
+use Rattle.cd_types.specs.declared.choices.Disp.TheVariants as disp
 use Rattle.cd_types.specs.declared.choices.Hold.TheVariants as hold
 use Rattle.cd_types.specs.declared.choices.Retain.TheVariants as retain
+use Rattle.cd_types.specs.declared.rows.Receiving.{Receiving}
 use Rattle.cd_entries.specs.declared.entry.Entry.TheVariants as entry
 use Rattle.cd_outside.specs.Shelf.{settled_shelf}
 use Rattle.cd_moves.specs.Node.{Node, Answers}
-use Rattle.cd_moves.specs.Worked.{node_a, node_b}
+use Rattle.cd_moves.specs.Worked.{worked_key, node_a, node_b}
 use Rattle.cd_world.specs.World.{A, B, Half, World, Event, Does, Loses, Later, Submits, Choice, Call, Frame, End, no_sessions}
 
 abbrev pub bytes : List ℕ
@@ -51,6 +53,10 @@ worked_events =
     Submits A card (codes "P1") ∷ Does A (Choice true) ∷ Does B Call
     ∷ Does B (Frame 0 answers) ∷ Does A (Frame 0 answers) ∷ Does B (Frame 0 answers) ∷ Does A (Frame 0 answers) ∷ Does B (Frame 0 answers)
     ∷ Does A (Frame 0 answers) ∷ Does B (Frame 0 answers) ∷ Does A (Frame 0 answers) ∷ Does B (Frame 0 answers) ∷ Does B (Frame 0 answers) ∷ []
+
+-- what the SNODE receives then: the file b, with RPL
+abbrev pub worked_receiving : ℕ → ℕ → Receiving
+worked_receiving length interval = record { key = worked_key; name = codes "b"; disp = disp.Rpl; there = false; base = 0; length = length; interval = interval }
 
 abbrev pub five : List ℕ
 five = 1 ∷ 2 ∷ 3 ∷ 4 ∷ 5 ∷ []

@@ -2,7 +2,7 @@ ghost use Rattle.std.specs.Prelude.{◌≡◌, ℕ, ◌+◌, ◌≤◌, List, �
 ghost use Rattle.cd_outside.specs.Content.{resized, overwritten};
 ghost use Rattle.cd_outside.specs.Shelf.{FileDoubt, FileChange, IsFileImage, settled_file, file_after, file_doubt_within};
 ghost use Rattle.cd_world.specs.Fronts.{BeginsWith, IsGuarded, KeepsFront};
-ghost use Rattle.cd_world.specs.Holds.{AreLegal, Extend, HaveResults, HaveLanded, AreSources, HaveFiles, AreLeft};
+ghost use Rattle.cd_world.specs.Holds.{AreLegal, Extend, HaveResults, HaveLanded, HaveStatements, HaveCopied, AreSources, HaveFiles, AreLeft};
 ghost use Rattle.cd_world.specs.World.{World, Event, IsFirst, ArePossible, after};
 
 /// Two nodes with different names and homes, whose journals have their Home alone and between which there is no
@@ -14,6 +14,9 @@ ghost use Rattle.cd_world.specs.World.{World, Event, IsFirst, ArePossible, after
 /// each COPY that ended with 0 landed exactly once at the node that received it. What landed is the source, whole: every
 /// list of bytes of the announced length that has at each offset what was read there since the receiving began.
 ///
+/// A node receives only what a COPY of a Process of the two nodes says, with the name, the disposition and the interval of that
+/// statement: a pull of its own, or a push of the other node. So the one landing of a COPY that ended with 0 has them, too.
+///
 /// What is settled of each file is what these landings leave of it, and the droppings, and whoever else wrote it: a landing
 /// leaves exactly what its disposition makes of the file before and of what came. And the files hold it, in whatever a
 /// crash may leave, too: a file is the settled one where nothing is received onto it, and else it begins with what stays of
@@ -24,6 +27,8 @@ pub fn law_of_events()
     ensures extends { (w : World) (events more : List Event) → IsFirst w → ArePossible w (events ++ more) → Extend (after w events) (after w (events ++ more)) }
     ensures results { (w : World) (events : List Event) → IsFirst w → ArePossible w events → HaveResults (after w events) }
     ensures landings { (w : World) (events : List Event) → IsFirst w → ArePossible w events → HaveLanded (after w events) }
+    ensures statements { (w : World) (events : List Event) → IsFirst w → ArePossible w events → HaveStatements (after w events) }
+    ensures copies { (w : World) (events : List Event) → IsFirst w → ArePossible w events → HaveCopied (after w events) }
     ensures sources { (w : World) (events : List Event) → IsFirst w → ArePossible w events → AreSources (after w events).notes }
     ensures files { (w : World) (events : List Event) → IsFirst w → ArePossible w events → HaveFiles (after w events) }
     ensures left { (w : World) (events : List Event) → IsFirst w → ArePossible w events → AreLeft w (after w events) }

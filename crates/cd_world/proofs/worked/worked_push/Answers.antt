@@ -55,6 +55,10 @@ pub returns-clause-landed : goal.returns-clause-landed
 unfolding same_key status outcome mark own_home submission submitted made_for is_live live_numbers ended latest is_forgotten openings placing allowed action_from code_at eif_from else_from label_from path_from pending_from is_formed is_sendable is_abort is_kept is_utf8 chars encode all_parts AllTold
 returns-clause-landed c = refl
 
+pub returns-clause-noted : goal.returns-clause-noted
+unfolding same_key status outcome mark own_home submission submitted made_for is_live live_numbers ended latest is_forgotten openings placing allowed action_from code_at eif_from else_from label_from path_from pending_from is_formed is_sendable is_abort is_kept is_utf8 chars encode all_parts AllTold
+returns-clause-noted c = refl
+
 pub returns-clause-file : goal.returns-clause-file
 unfolding same_key status outcome mark own_home submission submitted made_for is_live live_numbers ended latest is_forgotten openings placing allowed action_from code_at eif_from else_from label_from path_from pending_from is_formed is_sendable is_abort is_kept is_utf8 chars encode all_parts AllTold
 returns-clause-file c = refl
