@@ -1,6 +1,6 @@
 -- What is read of a text is what the grammar says, and what is read of a canonical text has that text.
 use Rattle.std.proofs.Common.{◌≡◌, ℕ, suc, length, Bool, true, false, cond, ◌&&◌, List, [], ◌∷◌, Option, Some, None, Result, Ok, Err, refl, sym, ap, subst, ◌∙◌}
-use Rattle.std.specs.Prelude.{nat_le}
+use Rattle.std.specs.Prelude.{nat_le, is_none}
 use Rattle.std.specs.Str.{bytes_eq}
 use Rattle.std.proofs.lemmas.Bool.{leb-true, le-leb}
 use Rattle.std.proofs.lemmas.Option.{cond_some}
@@ -20,19 +20,19 @@ use Rattle.cd_machine.specs.Placed.{AreKeyed, Placed}
 use Rattle.cd_parser.specs.Told.{IsNoMemory}
 use Rattle.cd_parser.specs.declared.fault.ParseFault.{ParseFault}
 use Rattle.cd_parser.specs.declared.fault.ParseFault.TheVariants.{Text}
-use Rattle.cd_reading.specs.Read.{are_none, is_clean, meant, process_in, if_printed}
+use Rattle.cd_reading.specs.Read.{are_none, meant, process_in, if_printed}
 
 none_is : (faults : List Found) → are_none faults ≡ true → faults ≡ []
 none_is [] e = refl
 none_is (f ∷ faults) e = absurd cc
 
-clean_is : (flaw : Option (FaultName × ℕ)) → is_clean flaw ≡ true → flaw ≡ None
+clean_is : (flaw : Option (FaultName × ℕ)) → is_none flaw ≡ true → flaw ≡ None
 clean_is None e = refl
 clean_is (Some f) e = absurd cc
 
 -- what is read of a text is in the grammar
 said_by : (text : List ℕ) (process : Process) (read : Result grammar.Reading Found) (short good : Bool)
-    → nat_le (length text) longest_plain ≡ short → is_clean (flaw_of text) ≡ good → ((all : grammar.Reading) → read ≡ Ok all → IsRead strict (tokens_of text) all)
+    → nat_le (length text) longest_plain ≡ short → is_none (flaw_of text) ≡ good → ((all : grammar.Reading) → read ≡ Ok all → IsRead strict (tokens_of text) all)
     → cond (short && good) (meant read) None ≡ Some process → InGrammar text process
 said_by text process (Ok all) true true short good sound e =
     let is : (are_none (late_faults all) ≡ true) × (process_of all ≡ process) = cond_some (are_none (late_faults all)) (process_of all) process e in
@@ -44,7 +44,7 @@ said_by text process read false good short clean sound e = absurd cc
 pub said_of : (text : List ℕ) (process : Process) → ((all : grammar.Reading) → whole strict (length text) (tokens_of text) ≡ Ok all → IsRead strict (tokens_of text) all)
     → process_in text ≡ Some process → InGrammar text process
 unfolding process_in
-said_of text process sound e = said_by text process (whole strict (length text) (tokens_of text)) (nat_le (length text) longest_plain) (is_clean (flaw_of text)) refl refl sound e
+said_of text process sound e = said_by text process (whole strict (length text) (tokens_of text)) (nat_le (length text) longest_plain) (is_none (flaw_of text)) refl refl sound e
 
 -- what is in the grammar is read
 pub found_of : (text : List ℕ) (process : Process) (said : InGrammar text process) → whole strict (length text) (tokens_of text) ≡ Ok said.all → process_in text ≡ Some process
