@@ -1,0 +1,10 @@
+//! How the texts of submitted Processes are read.
+#![tactic(auto)]
+
+mod canonical;
+mod law;
+#[cfg(test)]
+mod tests;
+
+pub use canonical::Canonical;
+pub use law::law_of_readings;
