@@ -1,7 +1,9 @@
 -- Bytes that came go on with what a reader was given.
-use Rattle.std.proofs.Common.{◌≡◌, ℕ, List, [], ◌∷◌, length, take, ◌++◌, true, false, Option, Some, None, Ok, Err, cond, eqb, refl, sym, ap, subst, ◌∙◌, arith}
+use Rattle.std.proofs.Common.{◌≡◌, ◌⊎◌, inl, inr, ⊎_elim, ℕ, List, [], ◌∷◌, length, take, ◌++◌, true, false, Option, Some, None, Ok, Err, cond, eqb, refl, sym, ap, subst, ◌∙◌, arith}
 use Rattle.std.proofs.lemmas.List.{append-nil}
-use Rattle.std.proofs.lemmas.Bool.{eq-eqb, cond-true}
+use Rattle.std.specs.Prelude.{is_some}
+use Rattle.std.proofs.lemmas.Bool.{eq-eqb, cond-true, false≢true}
+use Rattle.cd_outside.specs.Counts.{Rose}
 use Rattle.cd_types.specs.Format.{IsBytes}
 use Rattle.cd_types.specs.NumberLaw.{IsBytes-take}
 use Rattle.cd_outside.specs.Lines.{Traffic, LineCounts, NeverFell, took}
@@ -11,7 +13,9 @@ use Rattle.cd_frames.specs.ReadingLaw.{overwritten_all}
 use Rattle.cd_frames.specs.Run.{Run, lent, filled, stepped, given_by}
 use Rattle.cd_frames.specs.Stream.{Front, gives, refuses, waits}
 use Rattle.cd_frames.specs.declared.frame.FrameFault.{FrameFault}
-use Rattle.cd_plain.specs.Arriving.{and_one, Heard}
+use Rattle.cd_plain.specs.Arriving.{and_one, came_frame, CameSo, IsRefused, Heard}
+use Rattle.cd_plain.specs.declared.arriving.Came.{Came}
+use Rattle.cd_plain.specs.declared.arriving.Came.TheVariants as came
 
 module _ (sid : ℕ) (given : List Message) (r : Reading) (room over : List ℕ) (before now : Traffic) (run : Run (before.taken sid) given r) where
   pub took_none : now ≡ before → Run (now.taken sid) given (with_free r (overwritten room over))
@@ -71,3 +75,13 @@ fell_then first middle last one two = record {
   ends = λ session. omega (arith, one.ends session, two.ends session);
   nones = omega (arith, one.nones, two.nones);
 }
+
+-- where no frame came, the session ended, or gave what is none
+pub ended_so : (came : Came) (reader : Reading) (sid : ℕ) (before middle now : LineCounts) → CameSo came reader sid before middle → came_frame came reader.given ≡ None → NeverFell middle now
+    → IsRefused (front reader) ⊎ (Rose (before.ends sid) (now.ends sid) ⊎ Rose (before.faults sid) (now.faults sid))
+ended_so came.Frame reader sid before middle now so none later = absurd (false≢true (ap (λ (o : Option Message). is_some o) (sym none) ∙ so))
+ended_so came.Bad reader sid before middle now so none later = inl so
+ended_so came.End reader sid before middle now so none later = inr (⊎_elim
+    (λ ended. inl (let more = later.ends sid in omega (arith, ended, more)))
+    (λ failed. inr (let more = later.faults sid in omega (arith, failed, more)))
+    so)
