@@ -26,8 +26,7 @@ pub enum Came {
 /// Bytes are numbers below 256.
 fn bytes_are(bytes: &[u8])
     ensures { IsBytes bytes.now }
-{
-}
+{}
 
 /// How many bytes of a session came, which a reader takes; 0 where the session ended or failed. The reader waits.
 fn take_bytes<L: Lines>(reader: &mut Reader, lines: &mut L, sid: Sid) -> usize

@@ -1,6 +1,6 @@
 /// How what happened in a session was handled.
 #[derive(Clone, Copy, Debug, PartialEq, Eq)]
-pub(crate) enum Ending {
+pub enum Ending {
     /// All that the rules say was done.
     Went,
     /// The session is lost.

@@ -9,4 +9,9 @@ mod rules;
 mod taking;
 mod turn;
 
+pub use arriving::{Came, next_frame};
+pub use ending::Ending;
+pub use recording::try_record;
 pub use rules::PlainRules;
+pub use taking::take_frame;
+pub use turn::take_turn;

@@ -22,7 +22,7 @@ use cd_types::Moment;
 
 /// Records an entry where it may be recorded now, and answers whether that was so. With a submission comes the Process that its text
 /// reads as.
-pub(crate) fn try_record<T: Texts, D: Disk>(
+pub fn try_record<T: Texts, D: Disk>(
     registry: &mut Registry<T>,
     config: &Config,
     now: Moment,

@@ -95,7 +95,7 @@ fn give_up<T: Texts, R: Rules<T>, D: Disk, F: Files, L: Lines>(
 /// closed; where the session fails in it, that is its end. The requirements are those of `on_frame`.
 ///
 /// After `Disk` the journal isn't sound; after each `Err` the home is opened again.
-pub(crate) fn take_frame<T: Texts, R: Rules<T>, D: Disk, F: Files, L: Lines>(
+pub fn take_frame<T: Texts, R: Rules<T>, D: Disk, F: Files, L: Lines>(
     alloc: Global,
     rules: &R,
     registry: &mut Registry<T>,
@@ -129,7 +129,6 @@ pub(crate) fn take_frame<T: Texts, R: Rules<T>, D: Disk, F: Files, L: Lines>(
     ensures failed { IfErr result (λ fault. HasFailed (the_case F.told L.told (R.setting rules.now) T.read sid.number now others.now (message_of frame.now)) fault
         (spot registry.old.entries (F.state files.old).shelf phase.old holders.old (L.traffic lines.old))
         (spot registry.new.entries (F.state files.new).shelf phase.new holders.new (L.traffic lines.new))) }
-
 
     // What stands then.
     ensures legal { is_legal T.read registry.new.entries ≡ true }

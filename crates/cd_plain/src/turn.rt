@@ -38,7 +38,7 @@ fn is_over_for<T: Texts>(book: &Book<T>, number: Option<ProcNo>) -> bool
 
 /// What comes next in a session is handled: its next frame, or its end. No byte is taken of a session whose Process isn't live any
 /// more. The session's phase is lent, and the other sessions are handed in beside it.
-pub(crate) fn take_turn<T: Texts, R: Rules<T>, D: Disk, F: Files, L: Lines>(
+pub fn take_turn<T: Texts, R: Rules<T>, D: Disk, F: Files, L: Lines>(
     alloc: Global,
     rules: &R,
     registry: &mut Registry<T>,
