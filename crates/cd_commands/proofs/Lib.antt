@@ -1,0 +1,10 @@
+pub mod Digits
+pub mod Peeks
+pub mod Scan
+pub mod Laws
+pub mod Runs
+pub mod Cuts
+pub mod Told
+pub mod Complete
+pub mod Sound
+pub mod Submissions

@@ -1,0 +1,9 @@
+pub mod Words
+pub mod Values
+pub mod Given
+pub mod Machine
+pub mod Seen
+pub mod Commands
+pub mod Told
+pub mod Peeks
+pub mod Grammar
