@@ -1,3 +1,4 @@
 mod Coming
 mod Formed
+mod Places
 mod Recorded

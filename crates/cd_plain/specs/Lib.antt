@@ -1,4 +1,6 @@
 pub mod Arriving
 pub mod Handling
+pub mod NodeState
 pub mod Setting
 pub mod Turn
+pub mod Turned

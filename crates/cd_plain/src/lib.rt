@@ -4,6 +4,8 @@
 mod arriving;
 mod at_hand;
 mod ending;
+mod handled;
+mod node;
 mod recording;
 mod rules;
 mod taking;
@@ -11,6 +13,8 @@ mod turn;
 
 pub use arriving::{Came, next_frame};
 pub use ending::Ending;
+pub use handled::Handled;
+pub use node::Node;
 pub use recording::try_record;
 pub use rules::PlainRules;
 pub use taking::take_frame;

@@ -1,0 +1,166 @@
+//! A node: what it has recorded, its sessions, and what it does with what happens.
+ghost use Rattle.std.specs.Prelude.{◌≡◌, ◌≤◌, ◌<◌, ◌⊎◌, [], length, slice_get, slice_set, Some, Err, OnOk, IfOk, IfSome};
+ghost use Rattle.cd_outside.specs.Counts.{Rose};
+ghost use Rattle.cd_outside.specs.Lines.{NeverFell};
+ghost use Rattle.cd_legal.specs.Promises.{HavePriorities};
+ghost use Rattle.cd_plain.specs.NodeState.{IsReady};
+ghost use Rattle.cd_node.specs.declared.session.Session.{Session};
+ghost use Rattle.cd_plain.specs.Turned.{handled_of, in_phase, told, HadTurn, NoTurn};
+
+use crate::ending::Ending;
+use crate::handled::Handled;
+use crate::rules::PlainRules;
+use crate::turn::take_turn;
+use cd_book::Texts;
+use cd_deeds::{Fault, Holders, Registry};
+use cd_frames::Reader;
+use cd_moves::Phase;
+use cd_node::Session;
+use cd_outside::{Beat, Disk, Files, Lines, Sid};
+use cd_parts::Config;
+use cd_types::Moment;
+use std::alloc::Global;
+use std::marker::Model;
+use std::mem;
+
+/// A node. Its devices are handed to each call. Contracts see what it has recorded, how it is set up, its sessions with what was read
+/// of each, and which session holds which key.
+#[derive(Drop)]
+pub struct Node<T: Texts> {
+    alloc: Global,
+    config: Config,
+    registry: Registry<T>,
+    /// As they came. A session that is gone stays in the list.
+    sessions: Vec<Session>,
+    readers: Vec<Reader>,
+    holders: Holders,
+    buffer: Vec<u8>,
+}
+
+impl<T: Texts> Model for Node<T> {
+    ghost use Rattle.std.specs.Prelude.{◌≡◌, length, true};
+        ghost use Rattle.cd_plain.specs.NodeState.{NodeState};
+
+    ghost Value = { NodeState };
+
+    ghost view = { λ node. record { registry = node.registry; config = node.config; sessions = node.sessions.items; readings = node.readers.items; holdings = node.holders } };
+
+    ghost invariant = { λ node. length node.readers.items ≡ length node.sessions.items };
+}
+
+/// Where a session stands among these, the first of its number.
+fn place_of(sessions: &[Session], sid: Sid) -> Option<usize>
+    ensures found { IfSome result (λ at. (at < length sessions.now) × IfSome (slice_get sessions.now at) (λ session. session.sid.number ≡ sid.number)) }
+{
+    for at in 0..sessions.len() {
+        if sessions[at].sid.number == sid.number {
+            return Some(at);
+        }
+    }
+    None
+}
+
+/// The session at a place is in this phase from now on; its phase until now is answered.
+fn swap_phase(sessions: &mut Vec<Session>, at: usize, phase: Phase) -> Phase
+    requires { at < length sessions.old.items }
+    ensures swapped { (s : Session) → slice_get sessions.old.items at ≡ Some s → (result ≡ s.phase) × (sessions.new.items ≡ slice_set sessions.old.items at (in_phase phase s)) }
+    ensures length { length sessions.new.items ≡ length sessions.old.items }
+{
+    mem::replace(&mut sessions[at].phase, phase)
+}
+
+fn handled(ending: Ending, sid: Sid) -> Handled
+    ensures { result ≡ handled_of ending sid }
+{
+    match ending {
+        Ending::Went => Handled::Went,
+        Ending::Lost => Handled::Lost(sid),
+        Ending::Troubled => Handled::Aborted(sid),
+    }
+}
+
+impl<T: Texts> Node<T> {
+    /// A node that is set up so, over what it has recorded, with no session. It takes no memory.
+    pub fn new(alloc: Global, config: Config, registry: Registry<T>) -> Self
+        ensures { result ≡ record { registry = registry; config = config; sessions = []; readings = []; holdings = [] } }
+    {
+        Node {
+            alloc,
+            config,
+            registry,
+            sessions: Vec::new(alloc),
+            readers: Vec::new(alloc),
+            holders: Holders::new(alloc),
+            buffer: Vec::new(alloc),
+        }
+    }
+
+    /// What it has recorded.
+    pub fn registry(&self) -> &Registry<T>
+        ensures { result.now ≡ self.now.registry }
+    {
+        &self.registry
+    }
+
+    /// Its sessions, in the order in which they came. Those that are gone are among them.
+    pub fn sessions(&self) -> &[Session]
+        ensures { result.now ≡ self.now.sessions }
+    {
+        &self.sessions
+    }
+
+    /// What comes next in a session is handled. A session that isn't there is lost, and nothing is done.
+    ///
+    /// `Disk` comes only where the count of the journal's faults rose. After each `Err` the home has to be opened again.
+    pub fn turn<D: Disk, F: Files, L: Lines>(
+        &mut self,
+        sid: Sid,
+        now: Moment,
+        disk: &mut D,
+        files: &mut F,
+        lines: &mut L,
+        beat: &mut Beat,
+    ) -> Result<Handled, Fault>
+        requires priorities { HavePriorities T.read }
+        requires ready { IsReady D.told F.told T.read self.old (D.state disk.old) (F.state files.old) beat.old (L.last lines.old) now }
+        ensures ready { OnOk result (IsReady D.told F.told T.read self.new (D.state disk.new) (F.state files.new) beat.new (L.last lines.new) now) }
+        ensures turned { IfOk result (λ handled. HadTurn F.told L.told T.read now sid handled self.old self.new (told (F.state files.old).shelf (L.traffic lines.old) (L.counts lines.old)) (told (F.state files.new).shelf (L.traffic lines.new) (L.counts lines.new)) ⊎ NoTurn sid handled self.old self.new) }
+        ensures config { self.new.config ≡ self.old.config }
+        ensures disk { result ≡ Err Fault.Disk → Rose (D.faults disk.old) (D.faults disk.new) }
+        ensures beat { beat.old ≤ beat.new }
+        ensures disk_later { D.faults disk.old ≤ D.faults disk.new }
+        ensures files_later { F.faults files.old ≤ F.faults files.new }
+        ensures lines_later { NeverFell (L.counts lines.old) (L.counts lines.new) }
+    {
+        let Some(at) = place_of(&self.sessions, sid) else {
+            return Ok(Handled::Lost(sid));
+        };
+        let rules = PlainRules {
+            config: &self.config,
+        };
+        let mut phase = swap_phase(&mut self.sessions, at, Phase::Gone);
+        let ending = take_turn(
+            self.alloc,
+            &rules,
+            &mut self.registry,
+            &self.sessions,
+            &mut phase,
+            &mut self.readers[at],
+            &mut self.holders,
+            sid,
+            now,
+            disk,
+            files,
+            lines,
+            &mut self.buffer,
+            beat,
+        );
+        match ending {
+            Ok(ending) => {
+                swap_phase(&mut self.sessions, at, phase);
+                Ok(handled(ending, sid))
+            }
+            Err(fault) => Err(fault),
+        }
+    }
+}
