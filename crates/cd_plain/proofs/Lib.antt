@@ -1,4 +1,5 @@
 mod Coming
 mod Formed
+mod Greeting
 mod Places
 mod Recorded

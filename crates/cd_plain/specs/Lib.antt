@@ -1,4 +1,5 @@
 pub mod Arriving
+pub mod Chosen
 pub mod Handling
 pub mod NodeState
 pub mod Setting

@@ -2,6 +2,7 @@
 use Rattle.std.specs.Prelude.{◌≡◌, ◌≤◌, ℕ, List, [], ◌∷◌, true}
 use Rattle.cd_outside.specs.Disk.{DiskState, last_of}
 use Rattle.cd_outside.specs.Files.{FilesState, files_last_of}
+use Rattle.cd_frames.specs.Frame.{is_block}
 use Rattle.cd_frames.specs.Reading.{Reading}
 use Rattle.cd_status.specs.Processes.{latest}
 use Rattle.cd_legal.specs.Legal.{is_legal}
@@ -25,7 +26,7 @@ AreMade last [] = Unit {0}
 AreMade last (s ∷ sessions) = ((1 ≤ s.sid.number) × (s.sid.number ≤ last)) × AreMade last sessions
 
 -- The node can be handed what happens: its journal is the disk's, legal, with a header, and has no moment later than now; no device
--- was called at a later beat; and its sessions were made.
+-- was called at a later beat; its sessions were made; and a block has 1 to 65,536 bytes.
 pub record IsReady (disk_told files_told : Type 0) (read : steps.Reading) (node : NodeState) (disk : DiskState) (files : FilesState) (beat last now : ℕ) : Type 0 where
   pub legal : is_legal read node.registry.entries ≡ true
   pub on_time : latest node.registry.entries ≤ now
@@ -35,3 +36,4 @@ pub record IsReady (disk_told files_told : Type 0) (read : steps.Reading) (node 
   pub order : disk_told → last_of disk.calls ≤ beat
   pub files_order : files_told → files_last_of files.calls ≤ beat
   pub sids : AreMade last node.sessions
+  pub block : is_block node.config.block ≡ true

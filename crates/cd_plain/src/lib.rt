@@ -3,6 +3,7 @@
 
 mod arriving;
 mod at_hand;
+mod choosing;
 mod ending;
 mod handled;
 mod node;

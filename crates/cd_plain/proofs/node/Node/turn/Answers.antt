@@ -50,6 +50,7 @@ returns-in-Ok-clause-ready g c =
       files_order = e.files_order;
       sids = subst (λ (l : List Session). AreMade (g.L.Lines.last c.take_turn-ending.new.lines) l) (sym second)
           (subst (λ (n : ℕ). AreMade n (slice_set xs at (in_phase c.take_turn-ending.new.phase s))) (sym e.last) (made_set (g.L.Lines.last c.args.lines.now) xs at s c.take_turn-ending.new.phase ready.sids is));
+      block = ready.block;
     }
 
 pub returns-in-Ok-clause-turned : goal.returns-in-Ok-clause-turned

@@ -1,0 +1,29 @@
+use Rattle.std.proofs.Common.{◌≡◌, List, true, Some, Err, map, sym, ap, subst, ◌∙◌}
+use Rattle.cd_entries.specs.declared.entry.Entry.{Entry}
+use Rattle.cd_moves.specs.Node.{Deed, Part}
+use Rattle.cd_moves.specs.Rows.{are_allowed, row_chosen}
+use Rattle.cd_moves.specs.Seen.{seen_deed}
+use Rattle.cd_moves.specs.declared.session.Phase.TheVariants.{Gone}
+use Rattle.cd_deeds.specs.Stands.{spot}
+use Rattle.cd_deeds.specs.declared.fault.Fault.{Fault}
+use Rattle.cd_deeds.specs.declared.fault.Fault.TheVariants as fault
+use Rattle.cd_parts.specs.Desk.{desk_of}
+use Rattle.cd_parts.specs.Single.{keeps_none}
+use Rattle.cd_plain.proofs.Greeting.{chosen_allowed, chosen_none, done_same}
+use Rattle.cd_plain.proofs.choosing.greet.Goals as goal
+
+pub perform-requires-clause-allowed : goal.perform-requires-clause-allowed
+perform-requires-clause-allowed g c =
+    let made : map seen_deed c.in-Ok.part.deeds.items ≡ row_chosen (desk_of g.T.Texts.read c.args.config.now c.args.registry.now.entries) c.args.now true (Some c.args.chosen.now) = ap (λ (p : Part). p.deeds) c.in-Ok.ensures ∙ ap (λ (es : List Entry). row_chosen (desk_of g.T.Texts.read c.args.config.now es) c.args.now true (Some c.args.chosen.now)) c.book.ensures in
+    (c.args.now, subst (λ (ds : List Deed). are_allowed g.T.Texts.read c.args.now c.args.registry.now.entries ds ≡ true) (sym made) (chosen_allowed (desk_of g.T.Texts.read c.args.config.now c.args.registry.now.entries) c.args.now c.args.chosen.now c.requires.known c.requires.block))
+
+pub returns-in-Ok-perform-clause-same : goal.returns-in-Ok-perform-clause-same
+returns-in-Ok-perform-clause-same g c =
+    let made : map seen_deed c.in-Ok.part.deeds.items ≡ row_chosen (desk_of g.T.Texts.read c.args.config.now c.args.registry.now.entries) c.args.now true (Some c.args.chosen.now) = ap (λ (p : Part). p.deeds) c.in-Ok.ensures ∙ ap (λ (es : List Entry). row_chosen (desk_of g.T.Texts.read c.args.config.now es) c.args.now true (Some c.args.chosen.now)) c.book.ensures in
+    done_same g.F.Files.told g.L.Lines.told c.args.sid.number (map seen_deed c.in-Ok.part.deeds.items)
+    (spot c.args.registry.now.entries (g.F.Files.state c.args.files.now).shelf Gone c.args.holders.now (g.L.Lines.traffic c.args.lines.now))
+    (spot c.perform.new.registry.entries (g.F.Files.state c.perform.new.files).shelf c.perform.new.phase c.perform.new.holders (g.L.Lines.traffic c.perform.new.lines))
+    (subst (λ (ds : List Deed). keeps_none ds ≡ true) (sym made) (chosen_none (desk_of g.T.Texts.read c.args.config.now c.args.registry.now.entries) c.args.now c.args.chosen.now c.requires.known)) c.in-Ok-perform.ensures.done
+
+pub returns-in-Ok-clause-registry : goal.returns-in-Ok-clause-registry
+returns-in-Ok-clause-registry g c = λ told other. c.in-Err-perform.ensures.registry told (λ h. let is : c.in-Err-perform.fault ≡ fault.Disk = cc in other (ap (λ (f : Fault). Err f) is))

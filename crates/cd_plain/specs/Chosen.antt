@@ -1,0 +1,38 @@
+-- The choice of the next Process.
+use Rattle.std.specs.Prelude.{◌≡◌, ◌⊎◌, ℕ, List, [], ◌∷◌, false, Option, Some, None}
+use Rattle.cd_types.specs.declared.rows.Row.{Row}
+use Rattle.cd_entries.specs.declared.entry.Entry.{Entry}
+use Rattle.cd_entries.specs.declared.entry.Entry.TheVariants as entry
+use Rattle.cd_status.specs.Queue.{Waits}
+use Rattle.cd_legal.specs.Steps.{Reading}
+use Rattle.cd_moves.specs.Closing.{own_number}
+use Rattle.cd_moves.specs.Node.{Desk, Deed, Keep, Touch, AskSize, AskBytes, Begin, Go}
+use Rattle.cd_moves.specs.Rows.{may_record}
+use Rattle.cd_node.specs.declared.session.Session.{Session}
+
+abbrev pub busy_with : Option ℕ → List ℕ → List ℕ
+busy_with None numbers = numbers
+busy_with (Some n) numbers = n ∷ numbers
+
+-- the numbers of the Processes that have an open session
+abbrev pub busy_in : List Session → List ℕ
+busy_in [] = []
+busy_in (s ∷ sessions) = busy_with (own_number s.phase) (busy_in sessions)
+
+-- the placing that deeds record, where they record that alone
+abbrev pub placed_in : List Deed → Option Entry
+placed_in (Keep (entry.Placed number placing moment) ∷ []) = Some (entry.Placed number placing moment)
+placed_in _ = None
+
+-- it was recorded, where it may be
+abbrev pub IsPlaced : Reading → ℕ → Option Entry → List Entry → List Entry → Type 0
+IsPlaced read now None before after = after ≡ before
+IsPlaced read now (Some e) before after = (after ≡ e ∷ before) ⊎ ((may_record read now before e ≡ false) × (after ≡ before))
+
+-- the node can call the partner of a Process
+abbrev pub IsCalled : Option Waits → Type 0
+IsCalled None = ⊥
+IsCalled (Some waits) = Unit {0}
+
+abbrev pub IsKnown : Desk → Row → Type 0
+IsKnown desk chosen = IsCalled (desk.config.partner chosen.snode)
