@@ -1,5 +1,5 @@
 -- The first frame of a session may be sent.
-use Rattle.std.proofs.Common.{◌≡◌, ℕ, List, [], ◌∷◌, true, ◌&&◌, Option, Some, None, refl, sym, ◌∙◌}
+use Rattle.std.proofs.Common.{◌≡◌, ℕ, List, [], ◌∷◌, true, ◌&&◌, Option, Some, None, refl, sym, ap, ◌∙◌}
 use Rattle.std.proofs.lemmas.Bool.{and_from, false≢true}
 use Rattle.cd_types.specs.declared.rows.Row.{Row}
 use Rattle.cd_entries.specs.declared.entry.Entry.{Entry}
@@ -7,10 +7,14 @@ use Rattle.cd_frames.specs.Frame.{is_block}
 use Rattle.cd_status.specs.Processes.{own_home}
 use Rattle.cd_status.specs.Queue.{Waits}
 use Rattle.cd_legal.specs.Steps.{Reading}
+use Rattle.cd_moves.specs.declared.session.Phase.{Phase}
 use Rattle.cd_moves.specs.declared.session.Phase.TheVariants.{Greet}
-use Rattle.cd_moves.specs.Node.{Desk, Node, Deed, Keep, Touch, AskSize, AskBytes, Begin, Go, did, does}
+use Rattle.cd_moves.specs.Node.{Desk, Node, Deed, Keep, Touch, AskSize, AskBytes, Begin, Go, did, does, sends}
 use Rattle.cd_moves.specs.Rows.{is_sendable, are_allowed, hello, call, row_chosen}
-use Rattle.cd_deeds.specs.Stands.{Spot, WereDone, holder_of}
+use Rattle.cd_outside.specs.Lines.{Traffic}
+use Rattle.cd_outside.specs.Shelf.{Shelf}
+use Rattle.cd_deeds.specs.Stands.{Spot, spot, WereDone, holder_of, gave}
+use Rattle.cd_deeds.specs.declared.holders.Holding.{Holding}
 use Rattle.cd_parts.specs.Single.{keeps_none}
 use Rattle.cd_plain.specs.Chosen.{IsCalled, IsKnown}
 
@@ -54,3 +58,14 @@ call_none desk now chosen (Some waits) known = refl
 
 pub chosen_none : (desk : Desk) (now : ℕ) (chosen : Row) → IsKnown desk chosen → keeps_none (row_chosen desk now true (Some chosen)) ≡ true
 chosen_none desk now chosen known = call_none desk now chosen (desk.config.partner chosen.snode) known
+
+-- what was done, from lines that tell the same
+pub retold : (files_told lines_told : Type 0) (sid : ℕ) (deeds : List Deed) (entries : List Entry) (shelf : Shelf) (phase : Phase) (holdings : List Holding) (before then_told : Traffic) (after : Spot) → (lines_told → then_told ≡ before)
+    → WereDone files_told lines_told sid deeds (spot entries shelf phase holdings then_told) after → WereDone files_told lines_told sid deeds (spot entries shelf phase holdings before) after
+retold files_told lines_told sid deeds entries shelf phase holdings before then_told after same done = record {
+  node = λ node is. done.node node (record { journal = is.journal; shelf = is.shelf; phase = is.phase; holder = is.holder });
+  traffic = λ told. done.traffic told ∙ ap (gave sid (sends deeds)) (same told);
+}
+
+pub some_is : (one other : Row) → Some one ≡ Some other → one ≡ other
+some_is one other is = cc

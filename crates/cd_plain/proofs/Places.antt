@@ -1,5 +1,5 @@
 -- Sessions at their places.
-use Rattle.std.proofs.Common.{◌≡◌, ℕ, zero, suc, ◌<◌, ◌≤◌, List, [], ◌∷◌, length, Some, refl, sym, ap, subst, arith}
+use Rattle.std.proofs.Common.{◌≡◌, ℕ, zero, suc, ◌<◌, ◌≤◌, List, [], ◌∷◌, ◌++◌, length, Some, refl, sym, ap, subst, arith}
 use Rattle.std.specs.Prelude.{slice_get, slice_set, IfSome}
 use Rattle.cd_node.specs.declared.session.Session.{Session}
 use Rattle.cd_moves.specs.declared.session.Phase.{Phase}
@@ -30,3 +30,17 @@ pub get_set : (sessions : List Session) (at : ℕ) (s t : Session) → slice_get
 get_set (u ∷ sessions) zero s t is = refl
 get_set (u ∷ sessions) (suc at) s t is = get_set sessions at s t is
 get_set [] at s t is = absurd cc
+
+-- a newer session behind them
+pub made_more : (last now : ℕ) (sessions : List Session) (s : Session) → AreMade last sessions → last < s.sid.number → now ≡ s.sid.number → AreMade now (sessions ++ s ∷ [])
+made_more last now [] s made newer is = ((omega (arith, newer), omega (arith, is)), tt)
+made_more last now (t ∷ sessions) s made newer is = ((made.0.0, omega (arith, made.0.1, newer, is)), made_more last now sessions s made.1 newer is)
+
+-- one of those that were made behind them, and the same sessions later
+pub made_one : (last : ℕ) (sessions : List Session) (s : Session) → AreMade last sessions → 1 ≤ s.sid.number → s.sid.number ≤ last → AreMade last (sessions ++ s ∷ [])
+made_one last [] s made low high = ((low, high), tt)
+made_one last (t ∷ sessions) s made low high = (made.0, made_one last sessions s made.1 low high)
+
+pub made_later : (last now : ℕ) (sessions : List Session) → AreMade last sessions → last ≤ now → AreMade now sessions
+made_later last now [] made le = tt
+made_later last now (t ∷ sessions) made le = ((made.0.0, omega (arith, made.0.1, le)), made_later last now sessions made.1 le)

@@ -1,4 +1,5 @@
 pub mod Arriving
+pub mod Choice
 pub mod Chosen
 pub mod Handling
 pub mod NodeState

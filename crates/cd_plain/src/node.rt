@@ -1,12 +1,18 @@
 //! A node: what it has recorded, its sessions, and what it does with what happens.
-ghost use Rattle.std.specs.Prelude.{◌≡◌, ◌≤◌, ◌<◌, ◌⊎◌, [], length, slice_get, slice_set, Some, Err, OnOk, IfOk, IfSome};
+ghost use Rattle.std.specs.Prelude.{◌≡◌, ◌≤◌, ◌<◌, ◌⊎◌, ◌++◌, ◌∷◌, [], length, slice_get, slice_set, Some, None, Ok, Err, OnOk, IfOk, IfErr, IfSome};
 ghost use Rattle.cd_outside.specs.Counts.{Rose};
 ghost use Rattle.cd_outside.specs.Lines.{NeverFell};
 ghost use Rattle.cd_legal.specs.Promises.{HavePriorities};
-ghost use Rattle.cd_plain.specs.NodeState.{IsReady};
+ghost use Rattle.cd_plain.specs.NodeState.{AreMade, IsReady};
+ghost use Rattle.cd_plain.specs.Choice.{Accepted, WasChosen, WasConnected};
+ghost use Rattle.cd_plain.specs.Chosen.{busy_in, IsKnown};
+ghost use Rattle.cd_parts.specs.Desk.{desk_of};
+ghost use Rattle.cd_status.specs.Queue.{next_due};
+ghost use Rattle.cd_types.specs.declared.rows.Row.{Row};
 ghost use Rattle.cd_node.specs.declared.session.Session.{Session};
 ghost use Rattle.cd_plain.specs.Turned.{handled_of, in_phase, told, HadTurn, NoTurn};
 
+use crate::choosing::{busy, greet, place};
 use crate::ending::Ending;
 use crate::handled::Handled;
 use crate::rules::PlainRules;
@@ -17,11 +23,14 @@ use cd_frames::Reader;
 use cd_moves::Phase;
 use cd_node::Session;
 use cd_outside::{Beat, Disk, Files, Lines, Sid};
-use cd_parts::Config;
-use cd_types::Moment;
+use cd_parts::{Config, waits_of};
+use cd_types::{Moment, Row};
 use std::alloc::Global;
 use std::marker::Model;
 use std::mem;
+
+/// The port at which a partner is called, by its name.
+const PORT: u16 = 1364;
 
 /// A node. Its devices are handed to each call. Contracts see what it has recorded, how it is set up, its sessions with what was read
 /// of each, and which session holds which key.
@@ -160,6 +169,156 @@ impl<T: Texts> Node<T> {
                 swap_phase(&mut self.sessions, at, phase);
                 Ok(handled(ending, sid))
             }
+            Err(fault) => Err(fault),
+        }
+    }
+
+    /// A session is there from now on, in this phase.
+    fn open(&mut self, sid: Sid, phase: Phase) -> Result<(), Fault>
+        ensures opened { OnOk result (self.new.sessions ≡ self.old.sessions ++ (record { sid = sid; phase = phase }) ∷ []) }
+        ensures registry { self.new.registry ≡ self.old.registry }
+        ensures config { self.new.config ≡ self.old.config }
+        ensures holdings { self.new.holdings ≡ self.old.holdings }
+        ensures memory { IfErr result (λ fault. fault ≡ Fault.NoMemory) }
+    {
+        let Ok(reader) = Reader::new(self.alloc) else {
+            return Err(Fault::NoMemory);
+        };
+        let Ok(()) = self.readers.reserve(1) else {
+            return Err(Fault::NoMemory);
+        };
+        let Ok(()) = self.sessions.reserve(1) else {
+            return Err(Fault::NoMemory);
+        };
+        self.readers.push(reader).unwrap();
+        self.sessions.push(Session { sid, phase }).unwrap();
+        Ok(())
+    }
+
+    /// The next session of another node is taken. `NoMore` where the lines have none.
+    pub fn accept<L: Lines>(&mut self, lines: &mut L) -> Result<Handled, Fault>
+        requires made { AreMade (L.last lines.old) self.old.sessions }
+        ensures accepted { IfOk result (λ handled. Accepted handled (L.last lines.new) self.old.sessions self.new.sessions) }
+        ensures made { OnOk result (AreMade (L.last lines.new) self.new.sessions) }
+        ensures registry { self.new.registry ≡ self.old.registry }
+        ensures config { self.new.config ≡ self.old.config }
+        ensures holdings { self.new.holdings ≡ self.old.holdings }
+        ensures line { result ≡ Err Fault.Line → Rose (L.counts lines.old).accepts (L.counts lines.new).accepts }
+        ensures lines_later { NeverFell (L.counts lines.old) (L.counts lines.new) }
+    {
+        match lines.accept() {
+            Ok(Some(sid)) => match self.open(sid, Phase::Fresh) {
+                Ok(()) => Ok(Handled::Went),
+                Err(fault) => Err(fault),
+            },
+            Ok(None) => Ok(Handled::NoMore),
+            Err(_) => Err(Fault::Line),
+        }
+    }
+
+    /// The Process that is due next is chosen: its partner is connected, and a session begins; or it is placed anew, or held where
+    /// the node can't call its partner. `Idle` where none is due.
+    pub fn choose<D: Disk, F: Files, L: Lines>(
+        &mut self,
+        now: Moment,
+        disk: &mut D,
+        files: &mut F,
+        lines: &mut L,
+        beat: &mut Beat,
+    ) -> Result<Handled, Fault>
+        requires ready { IsReady D.told F.told T.read self.old (D.state disk.old) (F.state files.old) beat.old (L.last lines.old) now }
+        ensures ready { OnOk result (IsReady D.told F.told T.read self.new (D.state disk.new) (F.state files.new) beat.new (L.last lines.new) now) }
+        ensures idle { result ≡ Ok Handled.Idle → (next_due self.old.registry.entries now (busy_in self.old.sessions) ≡ None) × (self.new ≡ self.old) }
+        ensures chosen { IfOk result (λ handled. (row : Row) → next_due self.old.registry.entries now (busy_in self.old.sessions) ≡ Some row
+            → WasChosen F.told L.told T.read now row handled self.old self.new (told (F.state files.old).shelf (L.traffic lines.old) (L.counts lines.old)) (told (F.state files.new).shelf (L.traffic lines.new) (L.counts lines.new))) }
+        ensures config { self.new.config ≡ self.old.config }
+        ensures disk { result ≡ Err Fault.Disk → Rose (D.faults disk.old) (D.faults disk.new) }
+        ensures beat { beat.old ≤ beat.new }
+        ensures disk_later { D.faults disk.old ≤ D.faults disk.new }
+        ensures files_later { F.faults files.old ≤ F.faults files.new }
+        ensures lines_later { NeverFell (L.counts lines.old) (L.counts lines.new) }
+    {
+        let Ok(busy) = busy(self.alloc, &self.sessions) else {
+            return Err(Fault::NoMemory);
+        };
+        let Some(chosen) = self.registry.book().next_due(now, &busy) else {
+            return Ok(Handled::Idle);
+        };
+        if waits_of(&self.config, &chosen.snode).is_none() {
+            return match place(
+                self.alloc,
+                &self.config,
+                &mut self.registry,
+                now,
+                &chosen,
+                disk,
+                beat,
+            ) {
+                Ok(()) => Ok(Handled::Went),
+                Err(fault) => Err(fault),
+            };
+        }
+        match lines.connect(chosen.snode.as_bytes(), PORT) {
+            Ok(sid) => match self.connected(sid, now, &chosen, disk, files, lines, beat) {
+                Ok(handled) => Ok(handled),
+                Err(fault) => Err(fault),
+            },
+            Err(_) => match place(
+                self.alloc,
+                &self.config,
+                &mut self.registry,
+                now,
+                &chosen,
+                disk,
+                beat,
+            ) {
+                Ok(()) => Ok(Handled::NotConnected(chosen.number)),
+                Err(fault) => Err(fault),
+            },
+        }
+    }
+
+    /// The partner of a Process was connected.
+    fn connected<D: Disk, F: Files, L: Lines>(
+        &mut self,
+        sid: Sid,
+        now: Moment,
+        chosen: &Row,
+        disk: &mut D,
+        files: &mut F,
+        lines: &mut L,
+        beat: &mut Beat,
+    ) -> Result<Handled, Fault>
+        requires ready { IsReady D.told F.told T.read self.old (D.state disk.old) (F.state files.old) beat.old (L.last lines.old) now }
+        requires from { 1 ≤ sid.number }
+        requires to { sid.number ≤ L.last lines.old }
+        requires known { IsKnown (desk_of T.read self.old.config self.old.registry.entries) chosen.now }
+        ensures ready { OnOk result (IsReady D.told F.told T.read self.new (D.state disk.new) (F.state files.new) beat.new (L.last lines.new) now) }
+        ensures begun { IfOk result (λ handled. WasConnected F.told L.told T.read sid now chosen.now handled self.old self.new (told (F.state files.old).shelf (L.traffic lines.old) (L.counts lines.old)) (told (F.state files.new).shelf (L.traffic lines.new) (L.counts lines.new))) }
+        ensures config { self.new.config ≡ self.old.config }
+        ensures disk { result ≡ Err Fault.Disk → Rose (D.faults disk.old) (D.faults disk.new) }
+        ensures beat { beat.old ≤ beat.new }
+        ensures disk_later { D.faults disk.old ≤ D.faults disk.new }
+        ensures files_later { F.faults files.old ≤ F.faults files.new }
+        ensures lines_later { NeverFell (L.counts lines.old) (L.counts lines.new) }
+    {
+        match greet(
+            self.alloc,
+            &self.config,
+            &mut self.registry,
+            &mut self.holders,
+            sid,
+            now,
+            chosen,
+            disk,
+            files,
+            lines,
+            beat,
+        ) {
+            Ok(phase) => match self.open(sid, phase) {
+                Ok(()) => Ok(Handled::Went),
+                Err(fault) => Err(fault),
+            },
             Err(fault) => Err(fault),
         }
     }
