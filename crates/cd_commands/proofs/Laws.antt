@@ -10,7 +10,7 @@ use Rattle.cd_commands.specs.declared.command.Command.TheVariants as command
 use Rattle.cd_commands.specs.declared.given.Given.{Given}
 use Rattle.cd_commands.specs.Given.{options_of}
 use Rattle.cd_commands.specs.Machine.{Said, Whole, Text, Leaves, Begin, said}
-use Rattle.cd_commands.specs.Grammar.{First, Rest}
+use Rattle.cd_commands.specs.Grammar.{First}
 use Rattle.cd_commands.specs.Seen.{seen, lead}
 use Rattle.cd_commands.proofs.Complete.{complete}
 use Rattle.cd_commands.proofs.Sound.{sound}

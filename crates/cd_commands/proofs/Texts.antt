@@ -5,7 +5,7 @@ use Rattle.cd_commands.specs.declared.command.Command.{Command}
 use Rattle.cd_commands.specs.declared.fault.CommandFault.{CommandFault}
 use Rattle.cd_commands.specs.declared.fault.CommandFault.TheVariants.{Word, Process, NoMemory}
 use Rattle.cd_commands.specs.declared.given.Given.{Given}
-use Rattle.cd_commands.specs.Commands.{text_end, left_behind, IsSubmission, IsTextFault, IsCommand, Fault, Left, Wrong, IsCommandFault}
+use Rattle.cd_commands.specs.Commands.{text_end, left_behind, IsSubmission, IsCommand, Left, Wrong, IsCommandFault}
 use Rattle.cd_commands.specs.Machine.{Text, Leaves, Begin, said}
 use Rattle.cd_commands.specs.Seen.{seen, lead}
 use Rattle.cd_commands.specs.declared.fault.Stopped.{Stopped}

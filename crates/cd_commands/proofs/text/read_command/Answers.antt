@@ -1,6 +1,6 @@
 use Rattle.std.proofs.lemmas.Result.{err_from_is_err_and}
 use Rattle.cd_commands.specs.Commands.{IsCommandFault}
-use Rattle.cd_commands.proofs.Told.{none_told, as_told}
+use Rattle.cd_commands.proofs.Told.{none_told}
 use Rattle.cd_commands.proofs.text.read_command.Goals as goal
 
 pub returns-in_err-command-clause-every_command : goal.returns-in_err-command-clause-every_command
