@@ -1,9 +1,8 @@
 -- The reader reads all that the grammar allows.
-use Rattle.std.proofs.Common.{◌≡◌, ℕ, List, [], ◌∷◌, Bool, true, false, is_some, Option, Some, None, refl, ap, ◌∙◌}
+use Rattle.std.proofs.Common.{◌≡◌, ℕ, List, [], ◌∷◌, Bool, true, false, is_some, Option, Some, refl, ap, ◌∙◌}
 use Rattle.std.specs.Prelude.{if◌then◌else◌}
 use Rattle.cd_grammar.specs.declared.token.Token.{Token}
 use Rattle.cd_grammar.specs.declared.token.Token.TheVariants.{Word, Quoted, Mark}
-use Rattle.cd_grammar.specs.declared.token.Sign.TheVariants as sign
 use Rattle.cd_grammar.specs.Grammar.{text_of}
 use Rattle.cd_grammar.specs.Tokens.{place_of}
 use Rattle.cd_commands.specs.declared.kind.Kind.{Kind}
@@ -13,7 +12,7 @@ use Rattle.cd_commands.specs.declared.given.Given.{Given}
 use Rattle.cd_commands.specs.declared.given.Slot.{Slot}
 use Rattle.cd_commands.specs.Given.{with_value, with_word, with_quoted, with_name}
 use Rattle.cd_commands.specs.Words.{looks_ahead}
-use Rattle.cd_commands.specs.Machine.{Said, Whole, Text, Leaves, State, Begin, At, Named, Valued, Starting, Timing, Move, Goes, Stops, Begins, moved, goes_if, word_move, without, set_move, symbol_move, next, at_end, said}
+use Rattle.cd_commands.specs.Machine.{Said, Text, Leaves, State, Begin, At, Named, Starting, Timing, Goes, Stops, Begins, moved, word_move, without, set_move, symbol_move, next, at_end, said}
 use Rattle.cd_commands.specs.Grammar as grammar
 use Rattle.cd_commands.specs.Grammar.{Place, First, Params, Days, Times, IsNoEquals, Rest}
 use Rattle.cd_commands.proofs.Peeks.{named_other}

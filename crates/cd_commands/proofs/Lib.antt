@@ -8,3 +8,4 @@ pub mod Told
 pub mod Complete
 pub mod Sound
 pub mod Submissions
+pub mod Texts

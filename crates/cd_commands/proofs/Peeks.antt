@@ -11,7 +11,7 @@ use Rattle.cd_commands.specs.declared.given.Given.{Given}
 use Rattle.cd_commands.specs.declared.given.Slot.{Slot}
 use Rattle.cd_commands.specs.Words.{looks_ahead}
 use Rattle.cd_commands.specs.Peeks.{equals, are_equal}
-use Rattle.cd_commands.specs.Machine.{Said, State, Named, Valued, Move, Leaves, Stops, Begins, moved, goes_if, without, named_by, next, at_end, said}
+use Rattle.cd_commands.specs.Machine.{Said, State, Named, Valued, Leaves, Stops, Begins, moved, goes_if, without, named_by, next, said}
 
 without_by : (b : Bool) (g : Given) (at : ℕ) (tokens : List Token) (f h : State → Said)
     → moved (if b then Stops at else Begins g at) tokens f ≡ moved (if b then Stops at else Begins g at) tokens h

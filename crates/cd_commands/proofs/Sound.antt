@@ -24,7 +24,7 @@ use Rattle.cd_commands.specs.declared.given.Slot.TheVariants.{Set, Symbol}
 use Rattle.cd_commands.specs.declared.command.Command.{Command}
 use Rattle.cd_commands.specs.Words.{lead_in, kind_in, looks_ahead}
 use Rattle.cd_commands.specs.Given.{nothing, slot_of, with_value, with_name, started, finished}
-use Rattle.cd_commands.specs.Machine.{Said, Whole, Text, Leaves, State, Begin, Led, At, Named, Valued, Starting, Dated, Timing, Timed, Closing, Ended, Move, Goes, Stops, Begins, moved, goes_if, fits_if, lead_state, begin_move, led_move, word_move, end_move, at_move, without, named_by, named_move, open_move, opening_move, close_move, closing_move, set_move, symbol_move, value_move, starting_by, starting_move, dated_by, dated_move, time_move, timing_move, half_move, timed_move, next, at_end, said}
+use Rattle.cd_commands.specs.Machine.{Said, Whole, Text, Leaves, State, Begin, Led, At, Named, Valued, Starting, Dated, Timing, Timed, Closing, Ended, Stops, Begins, moved, goes_if, fits_if, lead_state, begin_move, led_move, word_move, end_move, at_move, without, named_by, named_move, open_move, opening_move, close_move, closing_move, set_move, symbol_move, value_move, starting_by, starting_move, dated_by, dated_move, time_move, timing_move, half_move, timed_move, next, at_end, said}
 use Rattle.cd_commands.specs.Grammar as grammar
 use Rattle.cd_commands.specs.Grammar.{First, Params, Days, Times, IsNoEquals, Rest}
 

@@ -3,7 +3,6 @@ use Rattle.std.proofs.Common.{◌≡◌, ℕ, ◌-◌, List, length, take, drop,
 use Rattle.cd_ast.specs.declared.fault.FaultName.TheVariants.{RetainStart}
 use Rattle.cd_ast.specs.declared.process.Process as processes
 use Rattle.cd_grammar.specs.declared.token.Token.{Token}
-use Rattle.cd_grammar.specs.Later.{Found}
 use Rattle.cd_grammar.specs.Faults.{Says, IsFaultOf}
 use Rattle.cd_commands.specs.declared.fault.CommandFault.{CommandFault}
 use Rattle.cd_commands.specs.declared.fault.CommandFault.TheVariants.{Word, Process, NoMemory}

@@ -17,6 +17,7 @@ use Rattle.cd_commands.specs.declared.command.Command.{Command}
 use Rattle.cd_commands.specs.declared.command.Command.TheVariants as command
 use Rattle.cd_commands.specs.declared.given.Given.{Given}
 use Rattle.cd_commands.specs.Given.{options_of}
+use Rattle.cd_commands.specs.Grammar.{First, Rest}
 use Rattle.cd_commands.specs.Machine.{Said, Whole, Text, Leaves, Begin, said}
 use Rattle.cd_commands.specs.Seen.{seen, lead}
 
@@ -74,14 +75,10 @@ pub record IsSubmission (text : List ℕ) (given : Given) (at : ℕ) (rest : Lis
   pub once : is_doubly_started given process ≡ false
   pub is : c ≡ command.SubmitText process (options_of given)
 
-abbrev pub IsSaid : List ℕ → Said → Command → Type 0
-IsSaid text (Whole said) c = c ≡ said
-IsSaid text (Text given at rest) c = IsSubmission text given at rest c
-IsSaid text (Leaves at) c = ⊥
-
--- a text is this command
-abbrev pub IsCommand : List ℕ → Command → Type 0
-IsCommand text c = IsSaid text (told text) c
+-- a text is this command: its tokens say it, or they say the options before a Process text that stands in it
+pub data IsCommand (text : List ℕ) (c : Command) : Type 0 where
+  whole : Rest First (seen text) (Whole c) → IsCommand text c
+  with_text : {given : Given} {at : ℕ} {rest : List Token} → Rest First (seen text) (Text given at rest) → IsSubmission text given at rest c → IsCommand text c
 
 -- what is wrong with a text: a place where it is no command, or a fault of its Process text
 pub data Fault : Type 0 where
@@ -98,11 +95,9 @@ pub data IsTextFault (text : List ℕ) (given : Given) (at : ℕ) (rest : List T
       → left_behind (length text) rest ≡ None → is_doubly_started given process ≡ true
       → IsTextFault text given at rest (Wrong (RetainStart, 0))
 
-abbrev pub IsFaultSaid : List ℕ → Said → Fault → Type 0
-IsFaultSaid text (Whole c) f = ⊥
-IsFaultSaid text (Text given at rest) f = IsTextFault text given at rest f
-IsFaultSaid text (Leaves at) f = f ≡ Left (at - lead text)
-
--- A text has this fault. A place counts from the command's first byte that is neither a blank nor in a comment.
-abbrev pub IsCommandFault : List ℕ → Fault → Type 0
-IsCommandFault text f = IsFaultSaid text (told text) f
+-- A text has this fault: its tokens leave the grammar at a place, or something is wrong with the Process text that stands in it.
+-- A place counts from the command's first byte that is neither a blank nor in a comment.
+pub data IsCommandFault (text : List ℕ) : Fault → Type 0 where
+  leaves : {at : ℕ} → told text ≡ Leaves at → IsCommandFault text (Left (at - lead text))
+  in_text : {given : Given} {at : ℕ} {rest : List Token} {f : Fault} → Rest First (seen text) (Text given at rest) → IsTextFault text given at rest f
+      → IsCommandFault text f

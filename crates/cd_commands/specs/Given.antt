@@ -1,5 +1,5 @@
 -- What the parameters of a command have given, and the command that they make up.
-use Rattle.std.specs.Prelude.{ℕ, List, [], ◌∷◌, Bool, true, false, not, ◌&&◌, ◌||◌, is_some, Option, Some, None, if◌then◌else◌}
+use Rattle.std.specs.Prelude.{ℕ, List, [], Bool, true, false, not, ◌&&◌, ◌||◌, is_some, Option, Some, None, if◌then◌else◌}
 use Rattle.std.specs.Option.{option_map}
 use Rattle.cd_types.specs.NodeName.{node_name_of}
 use Rattle.cd_types.specs.Symbols.{upper_case, with_symbol}

@@ -1,5 +1,5 @@
 -- The grammar of commands, on tokens.
-use Rattle.std.specs.Prelude.{◌≡◌, ℕ, List, [], ◌∷◌, Bool, true, false, is_some, Option, Some, None}
+use Rattle.std.specs.Prelude.{◌≡◌, ℕ, List, [], ◌∷◌, true, false, is_some, Some, None}
 use Rattle.cd_types.specs.declared.start.Day.{Day}
 use Rattle.cd_types.specs.declared.start.Day.TheVariants.{Today}
 use Rattle.cd_grammar.specs.declared.step.Clock.{Clock}

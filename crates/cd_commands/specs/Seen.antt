@@ -1,13 +1,13 @@
 -- The tokens of a command.
-use Rattle.std.specs.Prelude.{ℕ, ◌+◌, List, [], ◌∷◌, Bool, true, false, not, ◌&&◌, if◌then◌else◌, nat_lt, length, Option, Some, None}
+use Rattle.std.specs.Prelude.{ℕ, ◌+◌, List, [], ◌∷◌, Bool, true, false, if◌then◌else◌, nat_lt, length, Option, Some, None}
 use Rattle.cd_ast.specs.declared.piece.PieceKind.{PieceKind}
-use Rattle.cd_ast.specs.declared.piece.PieceKind.TheVariants.{LineEnd, Blank, Comment, Dash, Word, Quoted, Sign, Stray, CutQuote, CutComment}
+use Rattle.cd_ast.specs.declared.piece.PieceKind.TheVariants.{LineEnd, Blank, Comment, Stray, CutQuote, CutComment}
 use Rattle.cd_ast.specs.Pieces.{Piece, pieces_of}
 use Rattle.cd_ast.specs.Tokens.{is_token, bad_place}
 use Rattle.cd_grammar.specs.declared.token.Sign.TheVariants as sign
 use Rattle.cd_grammar.specs.declared.token.Token.{Token}
 use Rattle.cd_grammar.specs.declared.token.Token.TheVariants as token
-use Rattle.cd_grammar.specs.Tokens.{seen_token, place_of}
+use Rattle.cd_grammar.specs.Tokens.{seen_token}
 
 -- What makes no token reads as a sign that no command has, at its place.
 abbrev pub no_token : ℕ → Token

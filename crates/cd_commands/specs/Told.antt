@@ -1,5 +1,5 @@
 -- When each fault of a command is told, and what the code tells of the reader's runs.
-use Rattle.std.specs.Prelude.{◌≡◌, ℕ, List, []}
+use Rattle.std.specs.Prelude.{◌≡◌, ℕ, ◌-◌, List, []}
 use Rattle.cd_grammar.specs.declared.token.Token.{Token}
 use Rattle.cd_grammar.specs.Later.{Found}
 use Rattle.cd_commands.specs.declared.fault.CommandFault.{CommandFault}
@@ -54,3 +54,8 @@ IsRead x len (order.Text given at end left) = (rest : List Token) × (x ≡ Text
 abbrev pub OnProcess : (Found → Type 0) → Fault → Type 0
 OnProcess there (Left at) = ⊥
 OnProcess there (Wrong f) = there f
+
+-- the fault of a text, of whose tokens reading stopped; so many bytes stand before the command
+abbrev pub IsStop : ℕ → Stopped → CommandFault → Type 0
+IsStop before (stopped.Left at) fault = IsTold (λ f. f ≡ Left (at - before)) fault
+IsStop before stopped.NoMemory fault = IsTold (λ f. ⊥) fault

@@ -1,7 +1,6 @@
 -- What words say as values of a command's parameters.
-use Rattle.std.specs.Prelude.{ℕ, List, [], ◌∷◌, Bool, true, false, ◌&&◌, nat_le, length, codes, Option, Some, None, if◌then◌else◌}
+use Rattle.std.specs.Prelude.{ℕ, List, [], ◌∷◌, Bool, ◌&&◌, nat_le, length, codes, Option, Some, None, if◌then◌else◌}
 use Rattle.cd_types.specs.FileName.{is_file_name}
-use Rattle.cd_types.specs.declared.choices.Hold.TheVariants as hold
 use Rattle.cd_types.specs.declared.choices.Queue.{Queue}
 use Rattle.cd_types.specs.declared.choices.Queue.TheVariants as queue
 use Rattle.cd_grammar.specs.Words.{said_in, is_word}

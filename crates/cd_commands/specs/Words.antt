@@ -1,5 +1,5 @@
 -- The words of commands: with which one begins, and which parameters it has.
-use Rattle.std.specs.Prelude.{ℕ, List, [], ◌∷◌, Bool, true, false, codes, Option, Some, None}
+use Rattle.std.specs.Prelude.{ℕ, List, [], ◌∷◌, Bool, true, false, codes, Option}
 use Rattle.cd_grammar.specs.Words.{said_in, or_else}
 use Rattle.cd_commands.specs.declared.kind.Kind.{Kind}
 use Rattle.cd_commands.specs.declared.kind.Kind.TheVariants as kind

@@ -4,9 +4,9 @@ ghost use Rattle.cd_grammar.specs.declared.token.Token.{Token};
 ghost use Rattle.cd_grammar.specs.Words.{or_else};
 ghost use Rattle.cd_grammar.specs.Faults.{Says, IsFaultOf};
 ghost use Rattle.cd_commands.specs.Given.{options_of};
-ghost use Rattle.cd_commands.specs.Commands.{told, is_kept, both, is_doubly_started, text_end, left_behind, process_text, IsSubmission, IsTextFault, IsSaid, IsFaultSaid, IsCommand, IsCommandFault, Fault, Left};
+ghost use Rattle.cd_commands.specs.Commands.{told, is_kept, both, is_doubly_started, text_end, left_behind, process_text, IsSubmission, IsTextFault, IsCommand, IsCommandFault, Fault, Left};
 ghost use Rattle.cd_commands.specs.Seen.{lead};
-ghost use Rattle.cd_commands.specs.Told.{IsTold, IsNoMemory, IsAs, IsRead, OnProcess};
+ghost use Rattle.cd_commands.specs.Told.{IsTold, IsNoMemory, IsAs, IsRead, IsStop, OnProcess};
 
 use crate::fault::Stopped;
 use crate::given::{Given, options_of};
@@ -72,6 +72,16 @@ fn left(text: &[u8], at: u32) -> CommandFault
     CommandFault::Word((at as u64).saturating_sub(lead(text) as u64))
 }
 
+/// Why a text is no command, where reading its tokens stopped.
+fn stop(text: &[u8], stopped: Stopped) -> CommandFault
+    ensures { IsStop (lead text.now) stopped result }
+{
+    match stopped {
+        Stopped::Left(at) => left(text, at),
+        Stopped::NoMemory => CommandFault::NoMemory,
+    }
+}
+
 /// What a Process text says, or its first fault.
 fn read_process(alloc: Global, text: &[u8], symbols: &Symbols) -> Result<Process, CommandFault>
     ensures process { IfOk result (Says text.now symbols.now) }
@@ -120,8 +130,7 @@ fn read_text(alloc: Global, text: &[u8]) -> Result<Command, CommandFault>
         Ok(Order::Text(given, at, end, behind)) => {
             submission(alloc, text, given, (at, end), behind)
         }
-        Err(Stopped::Left(at)) => Err(left(text, at)),
-        Err(Stopped::NoMemory) => Err(CommandFault::NoMemory),
+        Err(stopped) => Err(stop(text, stopped)),
     }
 }
 

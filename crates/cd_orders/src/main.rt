@@ -181,18 +181,28 @@ fn running(alloc: Global, command: &Command) -> Result<String> {
     }
 }
 
+// A command.
+fn told(alloc: Global, command: &Command) -> Result<String> {
+    let mut line = submitted(alloc, command)?;
+    line.push_str(&operated(alloc, command)?)?;
+    line.push_str(&running(alloc, command)?)?;
+    Ok(line)
+}
+
+// Why a text is none.
+fn refused(alloc: Global, fault: CommandFault) -> Result<String> {
+    match fault {
+        CommandFault::Word(at) => Ok(format!(in alloc; "Word {at}\n")?),
+        CommandFault::Process(name, at) => Ok(format!(in alloc; "Process {name:?} {at}\n")?),
+        CommandFault::NoMemory => Ok(String::from_str(alloc, "NoMemory\n")?),
+    }
+}
+
 // The command, or the fault with its place.
 fn said(alloc: Global, text: &[u8]) -> Result<String> {
     match read_command(alloc, text) {
-        Ok(command) => {
-            let mut line = submitted(alloc, &command)?;
-            line.push_str(&operated(alloc, &command)?)?;
-            line.push_str(&running(alloc, &command)?)?;
-            Ok(line)
-        }
-        Err(CommandFault::Word(at)) => Ok(format!(in alloc; "Word {at}\n")?),
-        Err(CommandFault::Process(name, at)) => Ok(format!(in alloc; "Process {name:?} {at}\n")?),
-        Err(CommandFault::NoMemory) => Ok(String::from_str(alloc, "NoMemory\n")?),
+        Ok(command) => told(alloc, &command),
+        Err(fault) => refused(alloc, fault),
     }
 }
 

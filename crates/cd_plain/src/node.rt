@@ -48,7 +48,7 @@ pub struct Node<T: Texts> {
 
 impl<T: Texts> Model for Node<T> {
     ghost use Rattle.std.specs.Prelude.{◌≡◌, length, true};
-        ghost use Rattle.cd_plain.specs.NodeState.{NodeState};
+    ghost use Rattle.cd_plain.specs.NodeState.{NodeState};
 
     ghost Value = { NodeState };
 

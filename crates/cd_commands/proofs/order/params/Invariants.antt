@@ -1,4 +1,4 @@
-use Rattle.std.proofs.Common.{◌≡◌, length}
+use Rattle.std.proofs.Common.{length}
 use Rattle.cd_commands.specs.Given.{nothing}
 use Rattle.cd_commands.specs.Machine.{At, said}
 use Rattle.cd_commands.specs.Told.{Leads}

@@ -33,8 +33,8 @@ connected-requires-clause-ready g c =
 pub returns-in-Ok-connected-clause-chosen : goal.returns-in-Ok-connected-clause-chosen
 returns-in-Ok-connected-clause-chosen g c = λ row is.
     let due = sym c.in-Some.is ∙ c.next_due.ensures ∙ ap (λ (es : List Entry). next_due es c.args.now c.deref-2.result.now) c.book.ensures
-        ∙ ap (λ (numbers : List ℕ). next_due c.self.inside.registry.entries c.args.now numbers) (c.deref-2.ensures.value ∙ c.in-Ok.ensures ∙ ap busy_in c.deref.ensures.value)
-        ∙ ap (λ (n : NodeState). next_due n.registry.entries c.args.now (busy_in n.sessions)) c.self.view_is ∙ is in
+    ∙ ap (λ (numbers : List ℕ). next_due c.self.inside.registry.entries c.args.now numbers) (c.deref-2.ensures.value ∙ c.in-Ok.ensures ∙ ap busy_in c.deref.ensures.value)
+    ∙ ap (λ (n : NodeState). next_due n.registry.entries c.args.now (busy_in n.sessions)) c.self.view_is ∙ is in
     let same : c.in-Some.chosen ≡ row = some_is c.in-Some.chosen row due in
     let b = c.in-Ok-connected.ensures.begun in
     inl (record {
