@@ -1,9 +1,4 @@
-pub mod Places
-pub mod Digits
-pub mod PlainText
-pub mod Tested
 pub mod Legality
-pub mod Texts
 pub mod Counting
 pub mod BodyLengths
 pub mod Homes
@@ -12,7 +7,6 @@ pub mod Loading
 pub mod Adding
 pub mod Lengths
 pub mod Fitting
-pub mod Commands
 pub mod BodyBytes
 pub mod Deciding
 pub mod Fit
