@@ -5,6 +5,7 @@ pub mod Homes
 pub mod Submitting
 pub mod Loading
 pub mod Adding
+pub mod Submissions
 pub mod Lengths
 pub mod Fitting
 pub mod BodyBytes
