@@ -1,5 +1,5 @@
 -- The Process of a submission was said by a text.
-use Rattle.std.proofs.Common.{◌≡◌, ℕ, Bool, true, false, cond, List, Option, Some, None, refl, sym, ap, subst, ◌∙◌}
+use Rattle.std.proofs.Common.{◌≡◌, ℕ, ◌≤◌, length, Bool, true, false, cond, List, Option, Some, None, refl, sym, ap, subst, ◌∙◌}
 use Rattle.std.specs.Option.{option_map}
 use Rattle.cd_ast.specs.Canonical.{canonical}
 use Rattle.cd_ast.specs.declared.process.Process.{Process}
@@ -9,12 +9,16 @@ use Rattle.cd_commands.specs.declared.command.Options.{Options}
 use Rattle.cd_commands.specs.declared.given.Given.{Given}
 use Rattle.cd_commands.specs.declared.kind.Kind.{Kind}
 use Rattle.cd_commands.specs.declared.kind.Kind.TheVariants as kind
-use Rattle.cd_commands.specs.Commands.{IsCommand, whole, with_text}
+use Rattle.cd_commands.specs.Commands.{IsCommand, whole, with_text, process_text}
 use Rattle.cd_commands.specs.Given.{options_of, inited, changed, drilled, finished}
 use Rattle.cd_commands.specs.Grammar.{Place, Rest, one_word, two_words, param, symbol, startt, on_day, on_day_at, today_at, timed, timed_named, timed_half, end, text}
 use Rattle.cd_commands.specs.Machine.{Said, Whole, Text}
 use Rattle.cd_grammar.specs.declared.token.Token.{Token}
 use Rattle.cd_grammar.specs.Faults.{Says}
+use Rattle.cd_filing.specs.Filing.{with_options, default_interval, filed, is_push}
+use Rattle.cd_machine.specs.Ranges.{is_card}
+use Rattle.cd_reading.specs.Read.{canonical_reading}
+use Rattle.cd_turn.specs.Order.{IsKept, WasSaid, IsSaid}
 
 -- no command of parameters alone is a Process text's
 mapped : {A : Type 0} (x : Option A) (f : A → Command) (c : Command) → ((a : A) → f a ≡ c → ⊥) → option_map f x ≡ Some c → ⊥
@@ -72,6 +76,30 @@ rest_other p o (end {k} {given} {at} {c} made) h = let same : c ≡ command.Subm
 rest_other p o (text a b n) h = cc
 
 -- a text says the Process of a submission, with some values of names
-pub command_says : (bytes : List ℕ) (p : Process) (o : Options) → IsCommand bytes (command.SubmitText p o) → (part : List ℕ) × (overrides : List (List ℕ × List ℕ)) × Says part overrides p
-command_says bytes p o (whole r) = absurd (rest_other p o r refl)
-command_says bytes p o (with_text {given} {at} {rest} r s) = let same : s.process ≡ p = cc in (_, given.symbols, subst (λ (q : Process). Says _ given.symbols q) same s.says)
+text_says : (bytes : List ℕ) (p : Process) (o : Options) → IsCommand bytes (command.SubmitText p o) → WasSaid p
+text_says bytes p o (whole r) = absurd (rest_other p o r refl)
+text_says bytes p o (with_text {given} {at} {rest} r s) =
+    let same : s.process ≡ p = cc in
+    record { text = process_text bytes at rest; overrides = given.symbols; says = subst (λ (q : Process). Says (process_text bytes at rest) given.symbols q) same s.says }
+
+pub command_said : (bytes : List ℕ) (c : Command) → IsCommand bytes c → IsSaid c
+command_said bytes (command.Init name home) is = tt
+command_said bytes (command.SubmitFile file o) is = tt
+command_said bytes (command.SubmitText p o) is = text_says bytes p o is
+command_said bytes (command.View file symbols) is = tt
+command_said bytes (command.SelectProcess n queue) is = tt
+command_said bytes (command.Change n prty hold release) is = tt
+command_said bytes (command.Delete n) is = tt
+command_said bytes (command.Flush n) is = tt
+command_said bytes (command.SelectStatistics n) is = tt
+command_said bytes (command.ReleaseReceive file) is = tt
+command_said bytes (command.Work sessions turns) is = tt
+command_said bytes (command.Serve sessions together turns) is = tt
+command_said bytes (command.Drill file) is = tt
+command_said bytes (command.Generate seed count) is = tt
+command_said bytes command.Stop is = tt
+
+-- a push that was said is kept in a form that the journal can keep
+pub kept_formed : (o : Options) (p : Process) → is_push None (with_options o p) ≡ true → is_push (Some default_interval) (filed o p) ≡ true → canonical_reading (canonical (filed o p)) ≡ Some (filed o p)
+    → length (canonical (filed o p)) ≤ 200000 → is_card (filed o p).card ≡ true → IsKept (filed o p)
+kept_formed o p push kept read short card = record { push = kept; read = read; card = card; short = short }

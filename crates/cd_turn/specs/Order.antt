@@ -8,6 +8,7 @@ use Rattle.cd_commands.specs.declared.command.Command.{Command}
 use Rattle.cd_commands.specs.declared.command.Command.TheVariants as command
 use Rattle.cd_commands.specs.declared.command.Options.{Options}
 use Rattle.cd_filing.specs.Filing.{with_options, filed, default_interval, is_push}
+use Rattle.cd_grammar.specs.Faults.{Says}
 use Rattle.cd_hearing.specs.Heard.{heard}
 use Rattle.cd_hearing.specs.declared.heard.Heard.{Heard}
 use Rattle.cd_hearing.specs.declared.heard.Heard.TheVariants as said
@@ -51,3 +52,14 @@ IsFormed order.NotBuilt = Unit {0}
 IsFormed (order.Init name home) = IsNodeName name
 IsFormed (order.Submit process) = IsKept process
 IsFormed order.Stop = Unit {0}
+
+-- a Process that a text says after substitution
+pub record WasSaid (process : Process) : Type 0 where
+  pub text : List ℕ
+  pub overrides : List (List ℕ × List ℕ)
+  pub says : Says text overrides process
+
+-- the Process of a submission was said by a text
+abbrev pub IsSaid : Command → Type 0
+IsSaid (command.SubmitText process options) = WasSaid process
+IsSaid _ = Unit {0}

@@ -1,16 +1,20 @@
 //! What a command asks of the node.
-ghost use Rattle.std.specs.Prelude.{◌≡◌, IfOk, IfSome};
+ghost use Rattle.std.specs.Prelude.{◌≡◌, ℕ, List, true, nat_le, IfOk};
+ghost use Rattle.cd_filing.specs.Filing.{AreFormed};
+ghost use Rattle.cd_grammar.specs.Faults.{Says};
 ghost use Rattle.cd_hearing.specs.Heard.{heard};
 ghost use Rattle.cd_input.specs.Scanner.{event_of};
-ghost use Rattle.cd_types.specs.NodeName.{IsNodeName};
-ghost use Rattle.cd_turn.specs.Order.{submitted, order_for, order_of, told_by, IsFormed};
+ghost use Rattle.cd_machine.specs.Ranges.{passes};
+ghost use Rattle.cd_types.specs.NodeName.{is_node_name};
+ghost use Rattle.cd_turn.specs.Order.{submitted, order_for, order_of, told_by, IsFormed, IsSaid};
 
 use cd_ast::{FaultName, Process};
 use cd_commands::{Command, Options};
-use cd_filing::{DEFAULT_INTERVAL, filled, is_push, law_of_filings, with_options};
+use cd_filing::{filled, is_push, law_of_filings, with_options};
 use cd_hearing::{Heard, hear, law_of_hearing};
 use cd_input::Found;
 use cd_machine::law_of_ranges;
+use cd_reading::law_of_readings;
 use cd_types::{NoMemory, NodeName};
 use std::alloc::Global;
 
@@ -31,10 +35,40 @@ pub enum Order {
     Stop,
 }
 
-/// A submission of this Process.
-fn submitted(process: Process, options: &Options) -> Order
-    ensures { result ≡ submitted options.now process }
+/// A partner's name has the form of a node's.
+fn partner_form(snode: Option<NodeName>)
+    ensures { passes is_node_name snode ≡ true }
 {
+    if let Some(name) = snode {
+        let _ = name.as_bytes();
+    }
+}
+
+/// A class is a byte.
+fn class_form(class: Option<u8>)
+    ensures { passes (λ n. nat_le n 255) class ≡ true }
+{
+    let _ = class;
+}
+
+/// What the types of options keep.
+fn forms(options: &Options)
+    ensures { AreFormed options.now }
+{
+    partner_form(options.snode);
+    class_form(options.class);
+}
+
+/// A submission of this Process.
+
+fn submitted(process: Process, options: &Options) -> Order
+    ensures order { result ≡ submitted options.now process }
+    ensures formed { (text : List ℕ) (overrides : List (List ℕ × List ℕ)) → Says text overrides process → IsFormed result }
+{
+    law_of_filings();
+    law_of_readings();
+    law_of_ranges();
+    forms(options);
     let process = with_options(process, options);
     if is_push(&process, None) {
         Order::Submit(filled(process))
@@ -43,12 +77,20 @@ fn submitted(process: Process, options: &Options) -> Order
     }
 }
 
+/// What a command asks.
 fn order_for(command: Command) -> Order
-    ensures { result ≡ order_for command }
+    ensures order { result ≡ order_for command }
+    ensures formed { IsSaid command → IsFormed result }
 {
     match command {
-        Command::Init(name, home) => Order::Init(name, home),
-        Command::SubmitText(process, options) => submitted(process, &options),
+        Command::Init(name, home) => {
+            let _ = name.as_bytes();
+            Order::Init(name, home)
+        }
+        Command::SubmitText(process, options) => {
+            let order = submitted(process, &options);
+            order
+        }
         Command::Stop => Order::Stop,
         _ => Order::NotBuilt,
     }
@@ -57,7 +99,9 @@ fn order_for(command: Command) -> Order
 /// What the text of a command asks.
 fn order_in(alloc: Global, text: &[u8]) -> Result<Order, NoMemory>
     ensures order { IfOk result (λ order. order ≡ order_of (heard text.now)) }
+    ensures formed { IfOk result IsFormed }
 {
+    law_of_hearing();
     match hear(alloc, text) {
         Ok(Heard::Command(command)) => Ok(order_for(command)),
         Ok(Heard::Fault(name, at)) => Ok(Order::Wrong(name, at)),
@@ -71,7 +115,10 @@ pub fn order_of(alloc: Global, found: &Found) -> Result<Order, NoMemory>
     ensures formed { IfOk result IsFormed }
 {
     match found {
-        Found::Command(text) => order_in(alloc, text),
+        Found::Command(text) => match order_in(alloc, text) {
+            Ok(order) => Ok(order),
+            Err(fault) => Err(fault),
+        },
         Found::TooLong => Ok(Order::Wrong(FaultName::TooLong, LONGEST)),
         Found::Unfinished => Ok(Order::Wrong(FaultName::Unfinished, 0)),
     }
