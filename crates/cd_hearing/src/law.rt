@@ -12,7 +12,9 @@ ghost use Rattle.cd_hearing.specs.Heard.{fault_of, faulty, heard};
 ghost use Rattle.cd_hearing.specs.Texts.{read_plain, read_as};
 
 use cd_commands::{law_of_commands, law_of_grammar};
-use cd_machine::{law_of_later_faults, law_of_machine, law_of_resolved_texts, law_of_texts, law_of_tokens};
+use cd_machine::{
+    law_of_later_faults, law_of_machine, law_of_resolved_texts, law_of_texts, law_of_tokens,
+};
 
 /// What is read of a text is the Process that it says, and where it says none its first fault.
 pub fn law_of_plain_outcomes()
