@@ -8,5 +8,5 @@ mod tests;
 mod texts;
 
 pub use heard::{Heard, hear};
-pub use law::{law_of_hearing, law_of_outcomes, law_of_plain_outcomes};
+pub use law::{law_of_hearing, law_of_plain_readings, law_of_resolved_readings};
 pub use texts::read_as;

@@ -2,7 +2,7 @@
 ghost use Rattle.std.specs.Prelude.{◌≡◌, IfOk};
 ghost use Rattle.cd_hearing.specs.Texts.{read_as};
 
-use crate::law::law_of_outcomes;
+use crate::law::law_of_resolved_readings;
 use cd_ast::{FaultName, Process};
 use cd_parser::{ParseFault, parse};
 use cd_types::{NoMemory, Symbols};
@@ -17,7 +17,7 @@ pub fn read_as(
 ) -> Result<Result<Process, (FaultName, u64)>, NoMemory>
     ensures { IfOk result (λ read. read ≡ read_as text.now overrides.now) }
 {
-    law_of_outcomes();
+    law_of_resolved_readings();
     match parse(alloc, text, overrides) {
         Ok(process) => Ok(Ok(process)),
         Err(ParseFault::Text(name, at)) => Ok(Err((name, at))),

@@ -9,7 +9,7 @@ use Rattle.cd_machine.specs.Machine.{whole}
 use Rattle.cd_hearing.specs.Texts.{read_plain}
 use Rattle.cd_hearing.proofs.Converse.{ok_is, err_is}
 use Rattle.cd_hearing.proofs.Plain.{keyed, process_read, fault_read}
-use Rattle.cd_hearing.proofs.law.law_of_plain_outcomes.Goals as goal
+use Rattle.cd_hearing.proofs.law.law_of_plain_readings.Goals as goal
 
 pub returns : goal.returns
 returns c = record {
