@@ -17,7 +17,7 @@ use cd_machine::{
 };
 
 /// What is read of a text is the Process that it says, and where it says none its first fault.
-pub fn law_of_plain_outcomes()
+pub fn law_of_plain_readings()
     ensures said { (text : List ℕ) (process : Process) → read_plain text ≡ Ok process → InGrammar text process }
     ensures every_process { (text : List ℕ) (process : Process) → InGrammar text process → read_plain text ≡ Ok process }
     ensures wrong { (text : List ℕ) (f : Found) → read_plain text ≡ Err f → IsFault text f }
@@ -30,13 +30,13 @@ pub fn law_of_plain_outcomes()
 }
 
 /// The same of texts that are read after substitution.
-pub fn law_of_outcomes()
+pub fn law_of_resolved_readings()
     ensures said { (text : List ℕ) (overrides : List (List ℕ × List ℕ)) (process : Process) → read_as text overrides ≡ Ok process → Says text overrides process }
     ensures every_process { (text : List ℕ) (overrides : List (List ℕ × List ℕ)) (process : Process) → Says text overrides process → read_as text overrides ≡ Ok process }
     ensures wrong { (text : List ℕ) (overrides : List (List ℕ × List ℕ)) (f : Found) → read_as text overrides ≡ Err f → IsFaultOf text overrides f }
     ensures every_fault { (text : List ℕ) (overrides : List (List ℕ × List ℕ)) (f : Found) → IsFaultOf text overrides f → read_as text overrides ≡ Err f }
 {
-    law_of_plain_outcomes();
+    law_of_plain_readings();
     law_of_resolved_texts();
 }
 
@@ -48,6 +48,6 @@ pub fn law_of_hearing()
     ensures every_fault { (text : List ℕ) (f : commands.Fault) → IsCommandFault text f → heard text ≡ faulty (fault_of f) }
 {
     law_of_grammar();
-    law_of_outcomes();
+    law_of_resolved_readings();
     law_of_commands();
 }

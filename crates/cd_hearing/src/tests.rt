@@ -1,7 +1,8 @@
 //! Texts of commands, with what they say, worked by hand.
-use crate::{Heard, hear};
+use crate::{Heard, hear, read_as};
 use cd_ast::{FaultName, print};
 use cd_commands::Command;
+use cd_types::Symbols;
 use std::alloc::Global;
 use std::process::Abort;
 use std::test::Fail;
@@ -30,12 +31,14 @@ const FAULTS: &[(&[u8], FaultName, u64)] = &[
     ),
 ];
 
+const GAMMA: &[u8] = b"P PROCESS SNODE=Gamma PRTY=10 CLASS=1 HOLD=NO RETAIN=NO\nPEND\n";
+
 const COMMANDS: &[(&[u8], &[u8])] = &[
     (b"init name=ALPHA home=17;", b"init ALPHA 17"),
     (b"stop;", b"stop"),
     (
-        b"submit &to=gamma /* the text's own value gives way */ p process snode=&to &to=beta\npend;",
-        b"P PROCESS SNODE=GAMMA PRTY=10 CLASS=1 HOLD=NO RETAIN=NO\nPEND\n",
+        b"submit &to=Gamma p process snode=&to &To=beta /* which gives way */\npend;",
+        GAMMA,
     ),
 ];
 
@@ -63,13 +66,39 @@ fn fault(alloc: Global, text: &[u8]) -> Result<Option<(FaultName, u64)>, Fail> {
 }
 
 #[test]
-fn each_text_is_heard(rt: HostRuntime) -> Result<(), Fail> {
+fn each_fault_is_heard(rt: HostRuntime) -> Result<(), Fail> {
     let alloc = rt.alloc();
     for (text, name, at) in FAULTS {
         assert!(rt; fault(alloc, text)? == Some((*name, *at)));
     }
+    Ok(())
+}
+
+#[test]
+fn each_command_is_heard(rt: HostRuntime) -> Result<(), Fail> {
+    let alloc = rt.alloc();
     for (text, command) in COMMANDS {
         assert!(rt; written(alloc, text)?.as_slice() == *command);
     }
+    Ok(())
+}
+
+/// What is printed of the Process that a text says, with this value of the name `to`; no bytes where it has a fault.
+fn printed(alloc: Global, text: &[u8], value: &[u8]) -> Result<Vec<u8>, Fail> {
+    let mut values = Symbols::new(alloc);
+    values.set(b"to", value)?;
+    match read_as(alloc, text, &values)? {
+        Ok(process) => Ok(print(alloc, &process)?),
+        Err(_) => Ok(Vec::new(alloc)),
+    }
+}
+
+#[test]
+fn given_values_win(rt: HostRuntime) -> Result<(), Fail> {
+    let alloc = rt.alloc();
+    assert!(rt;
+        printed(alloc, b"P PROCESS SNODE=&to &To=beta PEND", b"Gamma")?.as_slice() == GAMMA
+    );
+    assert!(rt; printed(alloc, b"P PROCESS SNODE=&to PEND", b"&to")?.is_empty());
     Ok(())
 }

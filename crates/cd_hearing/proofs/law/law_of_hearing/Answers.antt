@@ -21,7 +21,7 @@ returns c = record {
     found text x rest = c.law_of_grammar.ensures.complete (length text) (seen text) x rest
 
     command : (text : List ℕ) (spoken : Command) → IsCommand text spoken → heard text ≡ hearing.Command spoken
-    command text spoken is = command_heard text (found text) c.law_of_outcomes.ensures.every_process spoken is
+    command text spoken is = command_heard text (found text) c.law_of_resolved_readings.ensures.every_process spoken is
 
     fault : (text : List ℕ) (f : Fault) → IsCommandFault text f → heard text ≡ faulty (fault_of f)
-    fault text f wrong = fault_heard text (found text) c.law_of_outcomes.ensures.every_process c.law_of_outcomes.ensures.every_fault f wrong
+    fault text f wrong = fault_heard text (found text) c.law_of_resolved_readings.ensures.every_process c.law_of_resolved_readings.ensures.every_fault f wrong
