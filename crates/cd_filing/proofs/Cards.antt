@@ -1,5 +1,5 @@
 -- What the PROCESS statement of a push says is in range, with options in its place.
-use Rattle.std.proofs.Common.{◌≡◌, ℕ, Bool, true, ◌&&◌, List, [], Option, Some, None, refl, arith, nat_le}
+use Rattle.std.proofs.Common.{◌≡◌, ℕ, Bool, true, ◌&&◌, [], Option, Some, None, refl, arith, nat_le}
 use Rattle.std.specs.Prelude.{◌==◌, is_none}
 use Rattle.std.proofs.lemmas.Bool.{and_parts, and_from}
 use Rattle.cd_types.specs.Label.{is_label}

@@ -1,20 +1,16 @@
 -- What is kept of a Process is read again as it.
-use Rattle.std.proofs.Common.{◌≡◌, ℕ, ◌+◌, ◌*◌, ◌≤◌, true, false, List, [], ◌∷◌, ◌++◌, length, map, Some, None, refl, ap, sym, subst, ◌∙◌, arith, nat_lt}
+use Rattle.std.proofs.Common.{◌≡◌, ℕ, ◌*◌, ◌≤◌, true, false, List, [], ◌∷◌, ◌++◌, length, map, Some, None, refl, sym, subst, arith, nat_lt}
 use Rattle.std.proofs.lemmas.List.{length-map}
 use Rattle.cd_types.specs.declared.start.Card.{Card}
 use Rattle.cd_ast.specs.declared.process.Process.{Process}
-use Rattle.cd_ast.specs.declared.process.Stmt.{Stmt}
 use Rattle.cd_ast.specs.Canonical.{canonical}
 use Rattle.cd_ast.specs.Laws.{AreInOrder}
 use Rattle.cd_ast.specs.Pieces.{pieces_of, bytes_of}
 use Rattle.cd_ast.specs.Tokens.{open_from, flaw_of, bad_place, spans_of}
 use Rattle.cd_grammar.specs.declared.given.Given.{Given}
-use Rattle.cd_grammar.specs.declared.mark.Mark.{Mark}
-use Rattle.cd_grammar.specs.Answers.{strict}
-use Rattle.cd_grammar.specs.Faults.{InGrammar, IsRead, longest_plain, longest_text}
+use Rattle.cd_grammar.specs.Faults.{InGrammar, longest_text}
 use Rattle.cd_grammar.specs.Later.{Found, late_faults, wrong_start, wrong_from}
 use Rattle.cd_grammar.specs.Reading.{Reading}
-use Rattle.cd_grammar.specs.Tokens.{tokens_of}
 use Rattle.cd_machine.specs.Ranges.{passes, is_card}
 use Rattle.cd_print.specs.Printable.{IsPrintable, HaveGoodTexts, is_day}
 use Rattle.cd_print.proofs.Back.{IsBack, print_read, print_clean}
@@ -27,10 +23,9 @@ use Rattle.cd_print.proofs.Lengths.{print_length}
 use Rattle.cd_print.proofs.Origin.{FineReading, AreMarked, all_fine}
 use Rattle.cd_print.proofs.Prints.{print_good, all_of}
 use Rattle.cd_print.proofs.Said.{PrintedValues}
-use Rattle.cd_print.proofs.Stmts.{AreFine}
 use Rattle.cd_print.proofs.Symbols.{text_size}
 use Rattle.cd_filing.specs.Filing.{filled_stmt}
-use Rattle.cd_filing.proofs.Filled.{filled_fit, filled_quotable, filled_texts, filled_nested, filled_marked, filled_size}
+use Rattle.cd_filing.proofs.Intervals.{filled_fit, filled_quotable, filled_texts, filled_nested, filled_marked, filled_size}
 
 -- the same Process with another card, and with its intervals said
 abbrev pub kept : Card → Process → Process
@@ -45,7 +40,7 @@ pub record IsKept (card : Card) (process : Process) : Type 0 where
 
 pub kept_printable : (card : Card) (process : Process) → IsKept card process → IsPrintable process → IsPrintable (kept card process)
 kept_printable card process is p =
-    let same : length (map filled_stmt process.stmts) ≡ length process.stmts = length-map filled_stmt process.stmts in
+    let same : length (map filled_stmt process.stmts) ≡ length process.stmts = length-map process.stmts filled_stmt in
     let few : length process.stmts ≤ 1024 = p.count in
     record {
       card = is.fits;

@@ -1,4 +1,4 @@
-pub mod Filled
+pub mod Intervals
 pub mod Pushes
 pub mod Cards
 pub mod Kept

@@ -1,4 +1,4 @@
-use Rattle.std.specs.Prelude.{◌≡◌, ℕ, ◌≤◌, List, true, Some, None, length}
+use Rattle.std.specs.Prelude.{◌≡◌, ℕ, ◌≤◌, List, true, None, length}
 use Rattle.cd_ast.specs.declared.process.Process.{Process}
 use Rattle.cd_ast.specs.Canonical.{canonical}
 use Rattle.cd_commands.specs.declared.command.Options.{Options}
