@@ -1,5 +1,6 @@
 -- What a node keeps of a Process that is submitted to it, and which Processes it takes today.
-use Rattle.std.specs.Prelude.{ℕ, List, [], ◌∷◌, map, Bool, true, false, is_none, ◌&&◌, ◌==◌, nat_le, Option, Some, None}
+use Rattle.std.specs.Prelude.{◌≡◌, ℕ, List, [], ◌∷◌, map, Bool, true, false, is_none, ◌&&◌, ◌==◌, nat_le, Option, Some, None}
+use Rattle.cd_types.specs.NodeName.{is_node_name}
 use Rattle.cd_types.specs.declared.choices.Disp.{Disp}
 use Rattle.cd_types.specs.declared.choices.Disp.TheVariants as disp
 use Rattle.cd_types.specs.declared.choices.Hold.{Hold}
@@ -14,7 +15,13 @@ use Rattle.cd_ast.specs.declared.process.What.{What}
 use Rattle.cd_ast.specs.declared.process.What.TheVariants.{Copy, Task, Submit, If, Else, Eif, Goto, Exit}
 use Rattle.cd_grammar.specs.Reading.{or_default}
 use Rattle.cd_grammar.specs.Words.{or_else}
+use Rattle.cd_machine.specs.Ranges.{passes}
 use Rattle.cd_commands.specs.declared.command.Options.{Options}
+
+-- what the types of options keep: a partner's name has the form of a node's, and a class is a byte
+pub record AreFormed (options : Options) : Type 0 where
+  pub snode : passes is_node_name options.snode ≡ true
+  pub class : passes (λ n. nat_le n 255) options.class ≡ true
 
 -- what the PROCESS statement says, with the options in place of what they name
 abbrev pub card_with : Options → Card → Card

@@ -2,7 +2,7 @@
 ghost use Rattle.std.specs.Prelude.{◌≡◌, map, Some};
 ghost use Rattle.cd_grammar.specs.Reading.{or_default};
 ghost use Rattle.cd_grammar.specs.Words.{or_else};
-ghost use Rattle.cd_filing.specs.Filing.{card_with, with_options, default_interval, filled_stmt, filled, is_not_held, is_not_kept, replaces, is_plain_card, says_interval, is_push_step, is_push};
+ghost use Rattle.cd_filing.specs.Filing.{AreFormed, card_with, with_options, default_interval, filled_stmt, filled, is_not_held, is_not_kept, replaces, is_plain_card, says_interval, is_push_step, is_push};
 
 use cd_ast::{CopyStep, Process, Stmt, Stmts, What};
 use cd_commands::Options;
@@ -33,7 +33,8 @@ fn or_default<T: Copy>(one: Option<T>, other: T) -> T
 
 /// What the PROCESS statement says, with the options in place of what they name.
 fn card_with(options: &Options, card: Card) -> Card
-    ensures { result ≡ card_with options.now card }
+    ensures value { result ≡ card_with options.now card }
+    ensures formed { AreFormed options.now }
 {
     Card {
         name: card.name,
@@ -48,7 +49,8 @@ fn card_with(options: &Options, card: Card) -> Card
 
 /// The Process with the options of its submission in place of what its PROCESS statement says.
 pub fn with_options(process: Process, options: &Options) -> Process
-    ensures { result ≡ with_options options.now process }
+    ensures value { result ≡ with_options options.now process }
+    ensures formed { AreFormed options.now }
 {
     Process {
         name: process.name,

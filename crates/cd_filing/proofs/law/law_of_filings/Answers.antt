@@ -6,7 +6,6 @@ use Rattle.cd_grammar.specs.Faults.{InGrammar, Says}
 use Rattle.cd_print.specs.Printable.{IsPrintable, is_day}
 use Rattle.cd_print.proofs.Heads.{PrintedStarts}
 use Rattle.cd_print.proofs.Said.{PrintedValues}
-use Rattle.cd_reading.specs.Read.{canonical_reading}
 use Rattle.cd_filing.specs.Filing.{AreFormed, card_with, with_options, filed, is_push}
 use Rattle.cd_filing.proofs.Cards.{IsPlain, plain_is, card_fits, none_passes, no_wrong_start}
 use Rattle.cd_filing.proofs.Kept.{IsKept, kept_printable, kept_short, kept_again}
