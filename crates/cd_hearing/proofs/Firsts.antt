@@ -1,10 +1,10 @@
 -- The first of faults is the one that is told.
-use Rattle.std.proofs.Common.{◌≡◌, ℕ, ◌<◌, ◌≤◌, Bool, true, false, cond, ◌||◌, List, [], ◌∷◌, refl, sym, ◌∙◌, ◌⊎◌, inl, inr, arith}
+use Rattle.std.proofs.Common.{◌≡◌, ◌<◌, ◌≤◌, Bool, true, false, ◌||◌, List, [], ◌∷◌, refl, sym, ◌∙◌, ◌⊎◌, inl, inr, arith}
 use Rattle.std.specs.Prelude.{All, nat_lt, nat_le, ◌==◌, ◌&&◌, if◌then◌else◌}
 use Rattle.std.proofs.lemmas.Bool.{ltb-true, ltb-false, eqb-true, leb-true, leb-false, eq-eqb, or_cases, and_parts, and_cases, cases_eq}
 use Rattle.std.proofs.lemmas.List.Elements.{All-nil, All-cons, Contains-append_right}
 use Rattle.cd_grammar.specs.Later.{Found, rank, IsSooner, IsFirstOf}
-use Rattle.cd_hearing.specs.Texts.{is_sooner, sooner, first_of}
+use Rattle.cd_hearing.specs.Texts.{is_sooner, first_of}
 
 sooner_self : (f : Found) → IsSooner f f
 sooner_self f = inr (refl, omega arith)

@@ -1,12 +1,11 @@
 -- All that the grammar says of a text is read.
-use Rattle.std.proofs.Common.{◌≡◌, ℕ, suc, ◌<◌, ◌≤◌, length, true, false, List, [], ◌∷◌, Option, Some, None, Result, Ok, Err, refl, sym, ap, subst, ◌∙◌}
+use Rattle.std.proofs.Common.{◌≡◌, ℕ, suc, length, true, false, List, [], ◌∷◌, Ok, Err, refl, sym, ap}
 use Rattle.std.specs.Prelude.{nat_lt}
 use Rattle.std.proofs.lemmas.Bool.{lt-ltb, le-ltb}
-use Rattle.cd_ast.specs.Tokens.{flaw_of}
 use Rattle.cd_ast.specs.declared.process.Process.{Process}
 use Rattle.cd_grammar.specs.declared.token.Token.{Token}
 use Rattle.cd_grammar.specs.Answers.{strict}
-use Rattle.cd_grammar.specs.Faults.{longest_plain, process_of, InGrammar, IsRead, Leaves, IsFault, too_long, in_bytes, in_tokens, in_meaning}
+use Rattle.cd_grammar.specs.Faults.{longest_plain, InGrammar, IsRead, Leaves, IsFault, too_long, in_bytes, in_tokens, in_meaning}
 use Rattle.cd_grammar.specs.Later.{Found, late_faults, IsFirstOf}
 use Rattle.cd_grammar.specs.Reading.{Reading}
 use Rattle.cd_grammar.specs.Tokens.{tokens_of, place_of}
