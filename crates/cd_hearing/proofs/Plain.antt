@@ -11,7 +11,7 @@ use Rattle.cd_grammar.specs.Reading.{Reading}
 use Rattle.cd_grammar.specs.Tokens.{tokens_of, place_of}
 use Rattle.cd_machine.specs.Machine.{whole}
 use Rattle.cd_machine.specs.Placed.{AreKeyed, Placed}
-use Rattle.cd_hearing.specs.Texts.{first_of, meant, read_plain}
+use Rattle.cd_hearing.specs.Texts.{soonest, meant, read_plain}
 use Rattle.cd_hearing.proofs.Firsts.{first_is}
 
 -- words that stand in a text have their keys
@@ -23,7 +23,7 @@ keyed from (t ∷ ts) h = (h.1, keyed (suc (place_of t)) ts h.2)
 meant_wrong : (all : Reading) (faults : List Found) (f : Found) → (faults ≡ [] → ⊥) → ((one other : Found) → IsFirstOf faults one → IsFirstOf faults other → one ≡ other)
     → IsFirstOf faults f → meant all faults ≡ Err f
 meant_wrong all [] f some one first = absurd (some refl)
-meant_wrong all (g ∷ faults) f some one first = ap Err (one (first_of g faults) f (first_is g faults) first)
+meant_wrong all (g ∷ faults) f some one first = ap Err (one (soonest g faults) f (first_is g faults) first)
 
 module _ (text : List ℕ) (reads : (all : Reading) → IsRead strict (tokens_of text) all → whole strict (length text) (tokens_of text) ≡ Ok all) where
   pub process_read : (process : Process) → InGrammar text process → read_plain text ≡ Ok process
