@@ -1,5 +1,5 @@
 -- A function that gives all that there is, of which there is something, gives nothing else.
-use Rattle.std.proofs.Common.{◌≡◌, Result, Ok, Err, sym, subst, ◌∙◌, ◌⊎◌, inl, inr}
+use Rattle.std.proofs.Common.{◌≡◌, Result, Ok, Err, subst, ◌⊎◌, inl, inr}
 
 same_ok : {A B : Type 0} (r : Result A B) (a b : A) → r ≡ Ok a → r ≡ Ok b → a ≡ b
 same_ok r a b e e2 = cc

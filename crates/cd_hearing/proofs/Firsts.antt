@@ -1,10 +1,10 @@
 -- The first of faults is the one that is told.
-use Rattle.std.proofs.Common.{◌≡◌, ℕ, ◌<◌, ◌≤◌, Bool, true, false, cond, ◌||◌, List, [], ◌∷◌, refl, sym, ◌∙◌, ◌⊎◌, inl, inr, arith}
+use Rattle.std.proofs.Common.{◌≡◌, ◌<◌, ◌≤◌, Bool, true, false, ◌||◌, List, [], ◌∷◌, refl, sym, ◌∙◌, ◌⊎◌, inl, inr, arith}
 use Rattle.std.specs.Prelude.{All, nat_lt, nat_le, ◌==◌, ◌&&◌, if◌then◌else◌}
 use Rattle.std.proofs.lemmas.Bool.{ltb-true, ltb-false, eqb-true, leb-true, leb-false, eq-eqb, or_cases, and_parts, and_cases, cases_eq}
 use Rattle.std.proofs.lemmas.List.Elements.{All-nil, All-cons, Contains-append_right}
 use Rattle.cd_grammar.specs.Later.{Found, rank, IsSooner, IsFirstOf}
-use Rattle.cd_hearing.specs.Texts.{is_sooner, sooner, first_of}
+use Rattle.cd_hearing.specs.Texts.{is_sooner, soonest}
 
 sooner_self : (f : Found) → IsSooner f f
 sooner_self f = inr (refl, omega arith)
@@ -56,7 +56,7 @@ by_test f g fs rest false e = record {
   first = All-cons (λ h. IsSooner g h) f fs (is_behind f g e) rest.first;
 }
 
-pub first_is : (f : Found) (fs : List Found) → IsFirstOf (f ∷ fs) (first_of f fs)
-unfolding first_of
+pub first_is : (f : Found) (fs : List Found) → IsFirstOf (f ∷ fs) (soonest f fs)
+unfolding soonest
 first_is f [] = record { there = (0, omega arith, refl); first = All-cons (λ h. IsSooner f h) f [] (sooner_self f) (All-nil (λ h. IsSooner f h)) }
-first_is f (g ∷ fs) = by_test f (first_of g fs) (g ∷ fs) (first_is g fs) (is_sooner f (first_of g fs)) refl
+first_is f (g ∷ fs) = by_test f (soonest g fs) (g ∷ fs) (first_is g fs) (is_sooner f (soonest g fs)) refl

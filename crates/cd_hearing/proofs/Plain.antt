@@ -1,18 +1,17 @@
 -- All that the grammar says of a text is read.
-use Rattle.std.proofs.Common.{◌≡◌, ℕ, suc, ◌<◌, ◌≤◌, length, true, false, List, [], ◌∷◌, Option, Some, None, Result, Ok, Err, refl, sym, ap, subst, ◌∙◌}
+use Rattle.std.proofs.Common.{◌≡◌, ℕ, suc, length, true, false, List, [], ◌∷◌, Ok, Err, refl, sym, ap}
 use Rattle.std.specs.Prelude.{nat_lt}
 use Rattle.std.proofs.lemmas.Bool.{lt-ltb, le-ltb}
-use Rattle.cd_ast.specs.Tokens.{flaw_of}
 use Rattle.cd_ast.specs.declared.process.Process.{Process}
 use Rattle.cd_grammar.specs.declared.token.Token.{Token}
 use Rattle.cd_grammar.specs.Answers.{strict}
-use Rattle.cd_grammar.specs.Faults.{longest_plain, process_of, InGrammar, IsRead, Leaves, IsFault, too_long, in_bytes, in_tokens, in_meaning}
+use Rattle.cd_grammar.specs.Faults.{longest_plain, InGrammar, IsRead, Leaves, IsFault, too_long, in_bytes, in_tokens, in_meaning}
 use Rattle.cd_grammar.specs.Later.{Found, late_faults, IsFirstOf}
 use Rattle.cd_grammar.specs.Reading.{Reading}
 use Rattle.cd_grammar.specs.Tokens.{tokens_of, place_of}
 use Rattle.cd_machine.specs.Machine.{whole}
 use Rattle.cd_machine.specs.Placed.{AreKeyed, Placed}
-use Rattle.cd_hearing.specs.Texts.{first_of, meant, read_plain}
+use Rattle.cd_hearing.specs.Texts.{soonest, meant, read_plain}
 use Rattle.cd_hearing.proofs.Firsts.{first_is}
 
 -- words that stand in a text have their keys
@@ -24,7 +23,7 @@ keyed from (t ∷ ts) h = (h.1, keyed (suc (place_of t)) ts h.2)
 meant_wrong : (all : Reading) (faults : List Found) (f : Found) → (faults ≡ [] → ⊥) → ((one other : Found) → IsFirstOf faults one → IsFirstOf faults other → one ≡ other)
     → IsFirstOf faults f → meant all faults ≡ Err f
 meant_wrong all [] f some one first = absurd (some refl)
-meant_wrong all (g ∷ faults) f some one first = ap Err (one (first_of g faults) f (first_is g faults) first)
+meant_wrong all (g ∷ faults) f some one first = ap Err (one (soonest g faults) f (first_is g faults) first)
 
 module _ (text : List ℕ) (reads : (all : Reading) → IsRead strict (tokens_of text) all → whole strict (length text) (tokens_of text) ≡ Ok all) where
   pub process_read : (process : Process) → InGrammar text process → read_plain text ≡ Ok process

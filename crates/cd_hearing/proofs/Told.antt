@@ -1,17 +1,15 @@
 -- All that a text is as a command is heard.
-use Rattle.std.proofs.Common.{◌≡◌, ℕ, ◌-◌, List, length, false, true, Option, Some, None, Ok, Err, refl, sym, ap, subst, ◌∙◌, ◌⊎◌, inl, inr}
+use Rattle.std.proofs.Common.{◌≡◌, ℕ, List, Ok, Err, refl, sym, ap, subst, ◌∙◌, ◌⊎◌, inl, inr}
 use Rattle.cd_ast.specs.declared.fault.FaultName.{FaultName}
 use Rattle.cd_ast.specs.declared.process.Process.{Process}
 use Rattle.cd_grammar.specs.declared.token.Token.{Token}
 use Rattle.cd_grammar.specs.Faults.{Says, IsFaultOf}
 use Rattle.cd_grammar.specs.Later.{Found}
 use Rattle.cd_commands.specs.declared.command.Command as spoken
-use Rattle.cd_commands.specs.declared.command.Command.TheVariants.{SubmitText}
 use Rattle.cd_commands.specs.declared.given.Given.{Given}
-use Rattle.cd_commands.specs.Given.{options_of}
 use Rattle.cd_commands.specs.Grammar.{First, Rest}
 use Rattle.cd_commands.specs.Machine.{Said, Whole, Text, Leaves}
-use Rattle.cd_commands.specs.Seen.{seen, lead}
+use Rattle.cd_commands.specs.Seen.{seen}
 use Rattle.cd_commands.specs.Commands.{told, left_behind, process_text, is_doubly_started, IsSubmission, IsCommand, whole, with_text, IsTextFault, in_process, behind_process, doubly_started, IsCommandFault, leaves, in_text}
 use Rattle.cd_commands.specs.Commands as commands
 use Rattle.cd_hearing.specs.declared.heard.Heard.{Heard}

@@ -1,5 +1,5 @@
 -- What the text of a command says, as a function.
-use Rattle.std.specs.Prelude.{ℕ, ◌-◌, List, length, Bool, Option, Some, None, Result, Ok, Err, if◌then◌else◌}
+use Rattle.std.specs.Prelude.{ℕ, ◌-◌, List, length, Option, Some, None, Result, Ok, Err, if◌then◌else◌}
 use Rattle.cd_ast.specs.declared.fault.FaultName.TheVariants.{Word, RetainStart}
 use Rattle.cd_ast.specs.declared.process.Process.{Process}
 use Rattle.cd_grammar.specs.Later.{Found}

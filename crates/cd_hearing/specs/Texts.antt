@@ -19,14 +19,14 @@ abbrev pub sooner : Found → Found → Found
 sooner f g = if is_sooner f g then f else g
 
 -- of a fault and others that which is told
-unfoldable pub first_of : Found → List Found → Found
-first_of f [] = f
-first_of f (g ∷ faults) = sooner f (first_of g faults)
+unfoldable pub soonest : Found → List Found → Found
+soonest f [] = f
+soonest f (g ∷ faults) = sooner f (soonest g faults)
 
 -- what a reading says: its Process, or the first of what is wrong with it
 abbrev pub meant : Reading → List Found → Result Process Found
 meant all [] = Ok (process_of all)
-meant all (f ∷ faults) = Err (first_of f faults)
+meant all (f ∷ faults) = Err (soonest f faults)
 
 -- what tokens say, or where they leave the grammar
 abbrev pub of_tokens : Result Reading Found → Result Process Found

@@ -42,18 +42,26 @@ const COMMANDS: &[(&[u8], &[u8])] = &[
     ),
 ];
 
-/// What a text says is written, where it is a command; no bytes where it has a fault.
-fn written(alloc: Global, text: &[u8]) -> Result<Vec<u8>, Fail> {
-    match hear(alloc, text)? {
-        Heard::Command(Command::Init(name, home)) => {
+/// A command in bytes: its name with what it names, or the print of its Process; none of other commands.
+fn spoken(alloc: Global, command: &Command) -> Result<Vec<u8>, Fail> {
+    match command {
+        Command::Init(name, home) => {
             let mut line = Vec::from_slice(alloc, b"init ")?;
             line.extend_from_slice(name.as_bytes())?;
             line.extend_from_slice(format!(in alloc; " {home}")?.as_bytes())?;
             Ok(line)
         }
-        Heard::Command(Command::SubmitText(process, _)) => Ok(print(alloc, &process)?),
-        Heard::Command(Command::Stop) => Ok(Vec::from_slice(alloc, b"stop")?),
+        Command::SubmitText(process, _) => Ok(print(alloc, process)?),
+        Command::Stop => Ok(Vec::from_slice(alloc, b"stop")?),
         _ => Ok(Vec::new(alloc)),
+    }
+}
+
+/// The command that a text says; no bytes where it has a fault.
+fn written(alloc: Global, text: &[u8]) -> Result<Vec<u8>, Fail> {
+    match hear(alloc, text)? {
+        Heard::Command(command) => spoken(alloc, &command),
+        Heard::Fault(_, _) => Ok(Vec::new(alloc)),
     }
 }
 
