@@ -8,7 +8,6 @@ use Rattle.cd_types.specs.declared.choices.Hold.TheVariants as hold
 use Rattle.cd_types.specs.declared.choices.Retain.{Retain}
 use Rattle.cd_types.specs.declared.choices.Retain.TheVariants as retain
 use Rattle.cd_types.specs.declared.start.Card.{Card}
-use Rattle.cd_ast.specs.declared.process.CopyStep.{CopyStep}
 use Rattle.cd_ast.specs.declared.process.Process.{Process}
 use Rattle.cd_ast.specs.declared.process.Stmt.{Stmt}
 use Rattle.cd_ast.specs.declared.process.What.{What}
