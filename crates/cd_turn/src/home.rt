@@ -1,5 +1,5 @@
 //! A home: the entries of a journal, and what follows from them.
-ghost use Rattle.std.specs.Prelude.{◌≡◌, ◌≢◌, ◌⊎◌, ◌+◌, ◌*◌, ◌≤◌, ◌<◌, ◌^◌, ◌++◌, ◌∷◌, [], List, ℕ, length, map, vec_len, vec_capacity, slice_get, true, false, ⊤, Some, IsTrue, IfOk, OnOk, OnErr, IfSome, All, ◌↔◌};
+ghost use Rattle.std.specs.Prelude.{◌≡◌, ◌≢◌, ◌⊎◌, ◌+◌, ◌*◌, ◌≤◌, ◌<◌, ◌^◌, ◌++◌, ◌∷◌, [], List, ℕ, length, map, vec_len, vec_capacity, slice_get, true, false, ⊤, Some, None, IsTrue, IfOk, OnOk, OnErr, IfSome, All, ◌↔◌};
 ghost use Rattle.cd_outside.specs.Counts.{Rose};
 ghost use Rattle.cd_outside.specs.Doubt.{IsImage};
 ghost use Rattle.cd_outside.specs.Disk.{last_of, LeftAt};
@@ -66,7 +66,8 @@ pub fn card_for(snode: NodeName, card: &Card) -> Filed
 }
 
 fn filed_card(card: &Card) -> Option<Filed>
-    ensures { result ≡ filed_card card.now }
+    ensures card { result ≡ filed_card card.now }
+    ensures start { IfSome result (λ kept. kept.start ≡ None) }
 {
     match card.snode {
         Some(snode) => Some(card_for(snode, card)),
@@ -75,7 +76,8 @@ fn filed_card(card: &Card) -> Option<Filed>
 }
 
 fn push_card(process: &Option<Process>) -> Option<Filed>
-    ensures { result ≡ push_card process.now }
+    ensures card { result ≡ push_card process.now }
+    ensures start { IfSome result (λ kept. kept.start ≡ None) }
 {
     match process {
         Some(process) => {
@@ -90,8 +92,10 @@ fn push_card(process: &Option<Process>) -> Option<Filed>
 }
 
 // The card of the Process whose canonical text this is.
+#[tactic(auto, unfolding(crate::specs::Texts::card_in))]
 fn card_in(alloc: Global, text: &[u8]) -> Result<Option<Filed>, NoMemory>
-    ensures { IfOk result (λ card. card ≡ card_in text.now) }
+    ensures card { IfOk result (λ card. card ≡ card_in text.now) }
+    ensures start { IfOk result (λ card. IfSome card (λ kept. kept.start ≡ None)) }
 {
     match Canonical.process(alloc, text) {
         Ok(process) => Ok(push_card(&process)),
@@ -105,10 +109,22 @@ fn are_same(a: &[u8], b: &[u8]) -> bool
     a == b
 }
 
+// Whether two cards without a start of their own say the same.
 fn same_card(a: &Filed, b: &Filed) -> bool
-    ensures { IsTrue result ↔ (a.now ≡ b.now) }
+    requires { b.now.start ≡ None }
+    ensures yes { IsTrue result → a.now ≡ b.now }
+    ensures only { a.now ≡ b.now → IsTrue result }
 {
-    a == b
+    if !are_same(a.name.as_bytes(), b.name.as_bytes()) {
+        return false;
+    }
+    if !are_same(a.snode.as_bytes(), b.snode.as_bytes()) {
+        return false;
+    }
+    if a.prty != b.prty || a.class != b.class || a.start.is_some() {
+        return false;
+    }
+    a.hold == b.hold && a.retain == b.retain
 }
 
 // Whether the text is the canonical one of a Process whose card this is.
@@ -288,10 +304,12 @@ impl Home {
             Err(EntryFault::Unfit) => return Err(JournalFault::Unfit(at)),
             Err(EntryFault::NoMemory) => return Err(JournalFault::NoMemory),
         };
-        match self.is_next(&entry) {
-            Ok(true) => {}
-            Ok(false) => return Err(JournalFault::Unfit(at)),
+        let is_next = match self.is_next(&entry) {
+            Ok(is_next) => is_next,
             Err(_) => return Err(JournalFault::NoMemory),
+        };
+        if !is_next {
+            return Err(JournalFault::Unfit(at));
         }
         self.entries.reserve(1)?;
         add(

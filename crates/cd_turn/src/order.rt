@@ -1,11 +1,8 @@
 //! What a command asks of the node.
-ghost use Rattle.std.specs.Prelude.{◌≡◌, ℕ, List, true, nat_le, IfOk};
-ghost use Rattle.cd_filing.specs.Filing.{AreFormed};
+ghost use Rattle.std.specs.Prelude.{◌≡◌, ℕ, List, IfOk};
 ghost use Rattle.cd_grammar.specs.Faults.{Says};
 ghost use Rattle.cd_hearing.specs.Heard.{heard};
 ghost use Rattle.cd_input.specs.Scanner.{event_of};
-ghost use Rattle.cd_machine.specs.Ranges.{passes};
-ghost use Rattle.cd_types.specs.NodeName.{is_node_name};
 ghost use Rattle.cd_turn.specs.Order.{submitted, order_for, order_of, told_by, IsFormed, IsSaid};
 
 use cd_ast::{FaultName, Process};
@@ -35,30 +32,6 @@ pub enum Order {
     Stop,
 }
 
-/// A partner's name has the form of a node's.
-fn partner_form(snode: Option<NodeName>)
-    ensures { passes is_node_name snode ≡ true }
-{
-    if let Some(name) = snode {
-        let _ = name.as_bytes();
-    }
-}
-
-/// A class is a byte.
-fn class_form(class: Option<u8>)
-    ensures { passes (λ n. nat_le n 255) class ≡ true }
-{
-    let _ = class;
-}
-
-/// What the types of options keep.
-fn forms(options: &Options)
-    ensures { AreFormed options.now }
-{
-    partner_form(options.snode);
-    class_form(options.class);
-}
-
 /// A submission of this Process.
 
 fn submitted(process: Process, options: &Options) -> Order
@@ -68,7 +41,6 @@ fn submitted(process: Process, options: &Options) -> Order
     law_of_filings();
     law_of_readings();
     law_of_ranges();
-    forms(options);
     let process = with_options(process, options);
     if is_push(&process, None) {
         Order::Submit(filled(process))

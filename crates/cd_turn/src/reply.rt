@@ -47,8 +47,9 @@ fn home_text(alloc: Global, name: NodeName, home: u64) -> Result<Vec<u8>, NoMemo
 }
 
 /// How a fault is called.
+#[tactic(auto, unfolding(crate::specs::Reply::fault_word))]
 fn fault_word(name: FaultName) -> &'static str
-    ensures { string_bytes result ≡ fault_word name }
+    ensures { result.now ≡ fault_word name }
 {
     match name {
         FaultName::TooLong => "TooLong",
