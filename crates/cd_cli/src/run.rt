@@ -29,6 +29,7 @@ use std::alloc::Global;
 const MAX_INPUT: usize = 16_777_216;
 
 // Does what came to its end.
+#[tactic(auto, using(cd_turn::proofs::Homes::rests_moments))]
 fn found_turn<P: Disk, C: Clock, O: Sink>(
     alloc: Global,
     home: &mut Home,

@@ -17,9 +17,9 @@ ghost use Rattle.cd_turn.specs.Texts.{card_for, filed_card, push_card, card_in, 
 use cd_ast::Process;
 use cd_book::Texts;
 use cd_entries::{Entry, EntryFault, read_entry, write_entry};
+use cd_filing::{DEFAULT_INTERVAL, is_push};
 use cd_journal::{Journal, JournalFault};
 use cd_outside::{Beat, Disk};
-use cd_filing::{DEFAULT_INTERVAL, is_push};
 use cd_reading::Canonical;
 use cd_types::{Card, Filed, Key, Moment, NoMemory, NodeName, ProcNo};
 use std::alloc::Global;
