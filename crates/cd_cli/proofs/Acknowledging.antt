@@ -5,8 +5,11 @@ use Rattle.std.proofs.lemmas.List.Folds.{list_any-append}
 use Rattle.cd_entries.specs.declared.entry.Entry.{Entry}
 use Rattle.cd_turn.specs.Entries.{submitted_in, live_in}
 use Rattle.cd_turn.specs.Home.{KeepsEntries}
-use Rattle.cd_turn.specs.Plain.{Plain, Command, Init, Submit, Stop}
-use Rattle.cd_turn.specs.Turn.{Turn, told_by, answer, submission, added, after_turn, after_turns, replies}
+use Rattle.cd_ast.specs.declared.process.Process.{Process}
+use Rattle.cd_turn.specs.declared.order.Order.{Order}
+use Rattle.cd_turn.specs.declared.order.Order.TheVariants as order
+use Rattle.cd_turn.specs.Order.{told_by}
+use Rattle.cd_turn.specs.Turn.{Turn, answer, room_answer, partner_answer, submission, submission_with, added, after_turn, after_turns, replies}
 use Rattle.cd_turn.specs.declared.reply.Reply.TheVariants as reply
 use Rattle.cd_turn.specs.declared.reply.Refusal.TheVariants.{Full}
 use Rattle.cd_cli.specs.Acknowledged.{tells, submits, KeepsNumber}
@@ -28,19 +31,24 @@ has_later : (n : ℕ) (entries : List Entry) (turns : List Turn) → list_any (s
 has_later n entries [] h = h
 has_later n entries (turn ∷ turns) h = has_later n (after_turn entries turn) turns (has_front n entries (option_to_list (added entries turn.now (told_by turn.event))) h)
 
-room_told : (t : Bool) (n now : ℕ) (entries : List Entry) (p : Plain) → tells n (cond t (reply.Submitted (submitted_in entries + 1)) (reply.Refused (Full 4096))) ≡ true
-    → list_any (submits n) (option_to_list (cond t (Some (submission entries now p)) None)) ≡ true
-room_told true n now entries p h = or_false (eqb (submitted_in entries + 1) n) ∙ h
-room_told false n now entries p h = absurd cc
+room_told : (t : Bool) (n now : ℕ) (entries : List Entry) (snode : List ℕ) (p : Process) → tells n (cond t (reply.Submitted (submitted_in entries + 1)) (reply.Refused (Full 4096))) ≡ true
+    → list_any (submits n) (option_to_list (cond t (Some (submission entries now snode p)) None)) ≡ true
+room_told true n now entries snode p h = or_false (eqb (submitted_in entries + 1) n) ∙ h
+room_told false n now entries snode p h = absurd cc
+
+partner_told : (n now : ℕ) (entries : List Entry) (p : Process) (partner : Option (List ℕ)) → tells n (partner_answer entries partner) ≡ true → list_any (submits n) (option_to_list (submission_with entries now p partner)) ≡ true
+partner_told n now entries p None h = absurd cc
+partner_told n now entries p (Some snode) h = room_told (ltb (live_in entries) 4096) n now entries snode p h
 
 -- a number is told with its entry
-told_added : (n now : ℕ) (entries : List Entry) (command : Option Command) → tells n (answer entries command) ≡ true → list_any (submits n) (option_to_list (added entries now command)) ≡ true
-told_added n now entries None h = absurd cc
-told_added n now entries (Some Stop) h = absurd cc
-told_added n now [] (Some (Init name home)) h = absurd cc
-told_added n now (e ∷ entries) (Some (Init name home)) h = absurd cc
-told_added n now [] (Some (Submit p)) h = absurd cc
-told_added n now (e ∷ entries) (Some (Submit p)) h = room_told (ltb (live_in (e ∷ entries)) 4096) n now (e ∷ entries) p h
+told_added : (n now : ℕ) (entries : List Entry) (wanted : Order) → tells n (answer entries wanted) ≡ true → list_any (submits n) (option_to_list (added entries now wanted)) ≡ true
+told_added n now entries (order.Wrong name at) h = absurd cc
+told_added n now entries order.NotBuilt h = absurd cc
+told_added n now entries order.Stop h = absurd cc
+told_added n now [] (order.Init name home) h = absurd cc
+told_added n now (e ∷ entries) (order.Init name home) h = absurd cc
+told_added n now [] (order.Submit p) h = absurd cc
+told_added n now (e ∷ entries) (order.Submit p) h = partner_told n now (e ∷ entries) p p.card.snode h
 
 either : (a b : Bool) → (a || b) ≡ true → (a ≡ true) ⊎ (b ≡ true)
 either true b h = inl refl
@@ -49,12 +57,12 @@ either false b h = inr h
 pub told_kept : (n : ℕ) (entries : List Entry) (turns : List Turn) → list_any (tells n) (replies entries turns) ≡ true → list_any (submits n) (after_turns entries turns) ≡ true
 told_kept n entries [] h = absurd cc
 told_kept n entries (turn ∷ turns) h =
-    let command = told_by turn.event in
+    let wanted = told_by turn.event in
     ⊎_elim
-    (λ (now : tells n (answer entries command) ≡ true).
-    has_later n (after_turn entries turn) turns (has_back n entries (option_to_list (added entries turn.now command)) (told_added n turn.now entries command now)))
+    (λ (now : tells n (answer entries wanted) ≡ true).
+    has_later n (after_turn entries turn) turns (has_back n entries (option_to_list (added entries turn.now wanted)) (told_added n turn.now entries wanted now)))
     (λ (later : list_any (tells n) (replies (after_turn entries turn) turns) ≡ true). told_kept n (after_turn entries turn) turns later)
-    (either (tells n (answer entries command)) (list_any (tells n) (replies (after_turn entries turn) turns)) h)
+    (either (tells n (answer entries wanted)) (list_any (tells n) (replies (after_turn entries turn) turns)) h)
 
 -- and what a crash leaves has it
 pub keeps_number : (n : ℕ) (entries : List Entry) (image : List ℕ) → list_any (submits n) entries ≡ true → Keeps entries image → KeepsNumber n image

@@ -12,7 +12,8 @@ use Rattle.cd_turn.specs.Ends.{journal_length, FitsBehind, IsFull}
 use Rattle.cd_turn.specs.Home.{StandsFor, IsFit, IsUnfit}
 use Rattle.cd_turn.specs.Legal.{IsLegal}
 use Rattle.cd_turn.specs.Status.{last_line}
-use Rattle.cd_turn.specs.Turn.{Turn, told_by, added, after_turn, after_turns, replies}
+use Rattle.cd_turn.specs.Order.{told_by}
+use Rattle.cd_turn.specs.Turn.{Turn, added, after_turn, after_turns, replies}
 use Rattle.cd_turn.specs.declared.reply.Reply.{Reply}
 use Rattle.cd_turn.specs.declared.status.Status.{Status}
 use Rattle.cd_turn.specs.declared.status.Status.TheVariants.{Done, Usage, Refused, Unfit, SourceFault, DiskFault, SinkFault, InputLimit, JournalFull, NoMemory}

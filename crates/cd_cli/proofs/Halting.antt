@@ -15,9 +15,10 @@ use Rattle.cd_input.specs.Input.{Event, upto_first}
 use Rattle.cd_turn.specs.Ends.{MayLeave, HasReason, TookAtEnd}
 use Rattle.cd_turn.specs.Home.{HomeState, IsHome, StandsFor, KeepsEntries}
 use Rattle.cd_turn.specs.Legal.{IsLegal}
-use Rattle.cd_turn.specs.Plain.{Command}
+use Rattle.cd_turn.specs.declared.order.Order.{Order}
+use Rattle.cd_turn.specs.Order.{told_by}
 use Rattle.cd_turn.specs.Reply.{reply_text}
-use Rattle.cd_turn.specs.Turn.{Turn, told_by, answer, added}
+use Rattle.cd_turn.specs.Turn.{Turn, answer, added}
 use Rattle.cd_turn.specs.declared.status.Status.{Status}
 use Rattle.cd_turn.specs.declared.status.Status.TheVariants.{Done, Usage, Refused, Unfit, SourceFault, DiskFault, SinkFault, InputLimit, JournalFull, NoMemory}
 use Rattle.cd_cli.specs.declared.flow.Flow.{Flow}
@@ -87,11 +88,11 @@ between_cut P InputLimit h = absurd h
 between_cut P NoMemory h = tt
 
 -- the run was ended within the turn of what came to its end
-pub halted_one : (told disk clock sink rose : Type 0) (moment : ℕ) (entries : List Entry) (out out_now : List ℕ) (was : Bool) (now : ℕ) (event : Event) (command : Option Command) (disk_now : DiskState) (status : Status)
-    → command ≡ told_by event → HasReason told disk rose entries (added entries now command) status → (sink → TookAtEnd status (reply_text (answer entries command)) out out_now)
+pub halted_one : (told disk clock sink rose : Type 0) (moment : ℕ) (entries : List Entry) (out out_now : List ℕ) (was : Bool) (now : ℕ) (event : Event) (wanted : Order) (disk_now : DiskState) (status : Status)
+    → wanted ≡ told_by event → HasReason told disk rose entries (added entries now wanted) status → (sink → TookAtEnd status (reply_text (answer entries wanted)) out out_now)
     → (clock → now ≡ moment) → (told → (image : List ℕ) → IsImage disk_now.doubt image → Keeps entries image)
     → Halted told clock sink moment (standing entries out was) (event ∷ []) disk_now out_now status
-halted_one told disk clock sink rose moment entries out out_now was now event command disk_now status e why took at keeps =
+halted_one told disk clock sink rose moment entries out out_now was now event wanted disk_now status e why took at keeps =
     let turn : Turn = record { now = now; event = event } in
     record {
       done = [];
@@ -102,9 +103,9 @@ halted_one told disk clock sink rose moment entries out out_now was now event co
       moment_is = λ t. All-cons (λ (turn : Turn). turn.now ≡ moment) turn [] (at t) (All-nil (λ (turn : Turn). turn.now ≡ moment));
       more = [];
       brought_is = refl;
-      cause = cause_of told disk rose entries turn was status (subst (λ (c : Option Command). HasReason told disk rose entries (added entries now c) status) e why);
-      took = λ t. subst (λ (c : Option Command). TookAtEnd status (reply_text (answer entries c)) out out_now) e (took t);
-      within = within_of told disk rose entries (added entries now command) status why;
+      cause = cause_of told disk rose entries turn was status (subst (λ (c : Order). HasReason told disk rose entries (added entries now c) status) e why);
+      took = λ t. subst (λ (c : Order). TookAtEnd status (reply_text (answer entries c)) out out_now) e (took t);
+      within = within_of told disk rose entries (added entries now wanted) status why;
       keeps = keeps;
     }
 

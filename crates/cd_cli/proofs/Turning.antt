@@ -6,11 +6,14 @@ use Rattle.std.proofs.lemmas.Grind.{flat_map-append}
 use Rattle.std.proofs.lemmas.List.{append-nil, map-append}
 use Rattle.std.proofs.lemmas.List.Elements.{All-append, All-cons, All-nil, All-weaker}
 use Rattle.cd_entries.specs.declared.entry.Entry.{Entry}
+use Rattle.cd_turn.specs.Entries.{live_in}
 use Rattle.cd_input.specs.Input.{Event, Whole, TooLong, Unfinished}
 use Rattle.cd_turn.specs.Ends.{FitsBehind}
-use Rattle.cd_turn.specs.Plain.{Command, Init, Submit, Stop, command_of}
+use Rattle.cd_turn.specs.declared.order.Order.{Order}
+use Rattle.cd_turn.specs.declared.order.Order.TheVariants as order
+use Rattle.cd_turn.specs.Order.{told_by}
 use Rattle.cd_turn.specs.Reply.{reply_text, is_refused}
-use Rattle.cd_turn.specs.Turn.{Turn, told_by, answer, added, after_turn, after_turns, replies}
+use Rattle.cd_turn.specs.Turn.{Turn, answer, partner_answer, added, after_turn, after_turns, replies}
 use Rattle.cd_turn.specs.declared.reply.Reply.{Reply}
 use Rattle.cd_turn.specs.declared.reply.Reply.TheVariants as reply
 use Rattle.cd_turn.specs.declared.reply.Refusal.TheVariants.{NotHome, Full}
@@ -73,20 +76,20 @@ turned_then disk clock sink moment a b c xs ys one two = record {
 }
 
 -- the turn of what came to its end
-pub turned_one : (disk clock sink : Type 0) (moment : ℕ) (entries later : List Entry) (out out_now : List ℕ) (was is : Bool) (now : ℕ) (event : Event) (command : Option Command) (given : Reply)
-    → command ≡ told_by event → later ≡ entries ++ option_to_list (added entries now command) → given ≡ answer entries command → (sink → out_now ≡ out ++ reply_text given)
-    → (disk → FitsBehind entries (added entries now command)) → (clock → now ≡ moment) → is ≡ is_refused given → HaveTurned disk clock sink moment (standing entries out was) (event ∷ []) (standing later out_now is)
-turned_one disk clock sink moment entries later out out_now was is now event command given e grown answered told fits at refused =
+pub turned_one : (disk clock sink : Type 0) (moment : ℕ) (entries later : List Entry) (out out_now : List ℕ) (was is : Bool) (now : ℕ) (event : Event) (wanted : Order) (given : Reply)
+    → wanted ≡ told_by event → later ≡ entries ++ option_to_list (added entries now wanted) → given ≡ answer entries wanted → (sink → out_now ≡ out ++ reply_text given)
+    → (disk → FitsBehind entries (added entries now wanted)) → (clock → now ≡ moment) → is ≡ is_refused given → HaveTurned disk clock sink moment (standing entries out was) (event ∷ []) (standing later out_now is)
+turned_one disk clock sink moment entries later out out_now was is now event wanted given e grown answered told fits at refused =
     let turn : Turn = record { now = now; event = event } in
     let answer_is : given ≡ answer entries (told_by event) = answered ∙ ap (answer entries) e in
     record {
       turns = turn ∷ [];
       events_are = refl;
       moments_are = λ t. All-cons (λ (turn : Turn). turn.now ≡ moment) turn [] (at t) (All-nil (λ (turn : Turn). turn.now ≡ moment));
-      entries_are = grown ∙ ap (λ (c : Option Command). entries ++ option_to_list (added entries now c)) e;
+      entries_are = grown ∙ ap (λ (c : Order). entries ++ option_to_list (added entries now c)) e;
       refused_is = refused ∙ ap is_refused answer_is;
       out_is = λ t. told t ∙ ap (λ (r : Reply). out ++ reply_text r) answer_is ∙ ap (λ (text : List ℕ). out ++ text) (sym (append-nil (reply_text (answer entries (told_by event)))));
-      fits = λ t. (subst (λ (c : Option Command). FitsBehind entries (added entries now c)) e (fits t), tt);
+      fits = λ t. (subst (λ (c : Order). FitsBehind entries (added entries now c)) e (fits t), tt);
     }
 
 -- the clock gave the moment that it gave at first
@@ -102,20 +105,25 @@ turned_since disk clock sink moment first a b xs same one = record {
 }
 
 -- `stop` alone is answered so that the run ends
-stop_ends : (text : List ℕ) (entries : List Entry) (command : Option Command) → ends_by (Whole text) (answer entries command) ≡ is_stop command
-stop_ends text entries None = refl
-stop_ends text entries (Some Stop) = refl
-stop_ends text [] (Some (Init name home)) = refl
-stop_ends text (e ∷ entries) (Some (Init name home)) = refl
-stop_ends text [] (Some (Submit p)) = refl
-stop_ends text (e ∷ entries) (Some (Submit p)) = goes_on (ltb _ 4096) _
+partner_goes : (text : List ℕ) (entries : List Entry) (partner : Option (List ℕ)) → ends_by (Whole text) (partner_answer entries partner) ≡ false
+partner_goes text entries None = refl
+partner_goes text entries (Some snode) = goes_on (ltb (live_in entries) 4096) _
   where
     goes_on : (t : Bool) (n : ℕ) → ends_by (Whole text) (cond t (reply.Submitted n) (reply.Refused (Full 4096))) ≡ false
     goes_on true n = refl
     goes_on false n = refl
 
+stop_ends : (text : List ℕ) (entries : List Entry) (wanted : Order) → ends_by (Whole text) (answer entries wanted) ≡ is_stop wanted
+stop_ends text entries (order.Wrong name at) = refl
+stop_ends text entries order.NotBuilt = refl
+stop_ends text entries order.Stop = refl
+stop_ends text [] (order.Init name home) = refl
+stop_ends text (e ∷ entries) (order.Init name home) = refl
+stop_ends text [] (order.Submit p) = refl
+stop_ends text (e ∷ entries) (order.Submit p) = partner_goes text (e ∷ entries) p.card.snode
+
 pub answer_ends : (event : Event) (entries : List Entry) → ends_by event (answer entries (told_by event)) ≡ ends_run event
-answer_ends (Whole text) entries = stop_ends text entries (command_of text)
+answer_ends (Whole text) entries = stop_ends text entries (told_by (Whole text))
 answer_ends TooLong entries = refl
 answer_ends Unfinished entries = refl
 

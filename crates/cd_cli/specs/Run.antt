@@ -10,10 +10,12 @@ use Rattle.cd_input.specs.Input.{Event, Whole, TooLong, Unfinished, begin, event
 use Rattle.cd_turn.specs.Ends.{MayLeave, FitsBehind, IsFull, TookAtEnd}
 use Rattle.cd_turn.specs.Home.{HomeState, IsHome, StandsFor, KeepsEntries}
 use Rattle.cd_turn.specs.Legal.{IsLegal, Extends}
-use Rattle.cd_turn.specs.Plain.{Command, Init, Submit, Stop, command_of}
+use Rattle.cd_turn.specs.Order.{told_by}
+use Rattle.cd_turn.specs.declared.order.Order.{Order}
+use Rattle.cd_turn.specs.declared.order.Order.TheVariants as order
 use Rattle.cd_turn.specs.Reply.{reply_text, is_refused}
 use Rattle.cd_turn.specs.Status.{last_line}
-use Rattle.cd_turn.specs.Turn.{Turn, told_by, answer, added, after_turn, after_turns, replies}
+use Rattle.cd_turn.specs.Turn.{Turn, answer, added, after_turn, after_turns, replies}
 use Rattle.cd_cli.specs.Acknowledged.{tells, KeepsNumber}
 use Rattle.cd_turn.specs.declared.reply.Reply.{Reply}
 use Rattle.cd_turn.specs.declared.status.Status.{Status}
@@ -23,15 +25,16 @@ use Rattle.cd_turn.specs.declared.status.Status.TheVariants.{Done, Usage, Refuse
 abbrev pub most_input : ℕ
 most_input = 16777216
 
-abbrev pub is_stop : Option Command → Bool
-is_stop None = false
-is_stop (Some Stop) = true
-is_stop (Some (Init name home)) = false
-is_stop (Some (Submit process)) = false
+abbrev pub is_stop : Order → Bool
+is_stop (order.Wrong name at) = false
+is_stop order.NotBuilt = false
+is_stop (order.Init name home) = false
+is_stop (order.Submit process) = false
+is_stop order.Stop = true
 
 -- the run ends with this: `stop`, a command that is too long, or one that the input's end cuts off
 abbrev pub ends_run : Event → Bool
-ends_run (Whole text) = is_stop (command_of text)
+ends_run (Whole text) = is_stop (told_by (Whole text))
 ends_run TooLong = true
 ends_run Unfinished = true
 

@@ -1,5 +1,5 @@
 //! A run of the node: the input is read on, and each command in it is a turn.
-ghost use Rattle.std.specs.Prelude.{◌≡◌, ◌⊎◌, ◌≤◌, ◌<◌, ◌++◌, ◌∷◌, [], List, Bool, true, false, length, option_map, OnOk, OnErr, IfOk, IfErr};
+ghost use Rattle.std.specs.Prelude.{◌≡◌, ◌⊎◌, ◌≤◌, ◌<◌, ◌++◌, ◌∷◌, [], List, Bool, true, false, length, OnOk, OnErr, IfOk, IfErr};
 ghost use Rattle.cd_outside.specs.Counts.{Rose};
 ghost use Rattle.cd_outside.specs.Disk.{last_of, LeftAt};
 ghost use Rattle.cd_outside.specs.Moments.{Moments};
@@ -9,9 +9,8 @@ ghost use Rattle.cd_input.specs.Scanner.{event_of, events_of};
 ghost use Rattle.cd_turn.specs.Ends.{MayLeave};
 ghost use Rattle.cd_turn.specs.Home.{StandsFor, IsHome, IsFit, IsUnfit};
 ghost use Rattle.cd_turn.specs.Legal.{IsLegal};
-ghost use Rattle.cd_turn.specs.PlainSeen.{seen_command};
 ghost use Rattle.cd_turn.specs.Status.{last_line};
-ghost use Rattle.cd_turn.specs.Turn.{IsFormed, told_by};
+ghost use Rattle.cd_turn.specs.Order.{told_by};
 ghost use Rattle.cd_cli.specs.Flow.{was_refused};
 ghost use Rattle.cd_cli.specs.Complete.{turns_at, Completes, TurnsAway};
 ghost use Rattle.cd_cli.specs.Run.{most_input, run_events, EachFits, EndedBy, GoneOn, RunMayLeave, TookLine, IfBetween, Ran, Came, Served};
@@ -23,25 +22,14 @@ use crate::telling::tell_last;
 use cd_input::{Found, Scanner};
 use cd_journal::JournalFault;
 use cd_outside::{Beat, Clock, Disk, Sink, Source};
-use cd_turn::{Command, Home, Status, command_of, make_turn};
+use cd_turn::{Home, Status, make_turn, order_of};
 use std::alloc::Global;
 
 /// The most bytes of the input that are read.
 const MAX_INPUT: usize = 16_777_216;
 
-// The command that came to its end; one that is too long or cut off is none.
-#[tactic(auto, using(cd_turn::proofs::Commands::command_formed))]
-fn command_in(found: &Found) -> Option<Command<'_>>
-    ensures told { option_map seen_command result ≡ told_by (event_of found.now) }
-    ensures formed { IsFormed (option_map seen_command result) }
-{
-    match found {
-        Found::Command(text) => command_of(text),
-        Found::TooLong | Found::Unfinished => None,
-    }
-}
-
 // Does what came to its end.
+#[tactic(auto, using(cd_turn::proofs::Homes::rests_moments))]
 fn found_turn<P: Disk, C: Clock, O: Sink>(
     alloc: Global,
     home: &mut Home,
@@ -70,9 +58,12 @@ fn found_turn<P: Disk, C: Clock, O: Sink>(
     ensures later { P.faults journal.old ≤ P.faults journal.new }
     ensures later_out { O.faults out.old ≤ O.faults out.new }
 {
-    let command = command_in(found);
+    let order = match order_of(alloc, found) {
+        Ok(order) => order,
+        Err(_) => return Err(Status::NoMemory),
+    };
     let now = clock.now();
-    match make_turn(alloc, home, &command, now, journal, out, beat) {
+    match make_turn(alloc, home, &order, now, journal, out, beat) {
         Ok(reply) => Ok(flow_of(found, reply)),
         Err(status) => Err(status),
     }

@@ -54,8 +54,8 @@ fn the_input_is_at_its_limit(rt: HostRuntime) -> Result<(), Fail> {
 #[test]
 fn a_command_is_at_its_limit(rt: HostRuntime) -> Result<(), Fail> {
     for (count, lines) in [
-        (69_999, b"REFUSED NOTYET\nSTOPPED\n".as_slice()),
-        (70_000, b"REFUSED NOTYET\n"),
+        (69_999, b"REFUSED TEXT Word 0\nSTOPPED\n".as_slice()),
+        (70_000, b"REFUSED TEXT TooLong 70000\n"),
     ] {
         let mut commands = vec![in rt.alloc(); b'a'; count]?;
         commands.extend_from_slice(b";stop;")?;

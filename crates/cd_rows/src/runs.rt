@@ -78,22 +78,23 @@ fn a_home_that_has_a_name(rt: HostRuntime) -> Result<(), Fail> {
 }
 
 /// Commands on a home without a name, the lines that answer them, and the exit status.
-const ANSWERS: [(&[u8], &[u8], u8); 24] = [
+const ANSWERS: [(&[u8], &[u8], u8); 25] = [
     (b"", b"", 0),
     (b" \t\r\n/* none */\n* none\n", b"", 0),
     (b"stop;", b"STOPPED\n", 0),
     (b"stop; foo;", b"STOPPED\n", 0),
-    (b"foo; stop;", b"REFUSED NOTYET\nSTOPPED\n", 0),
-    (b"foo;", b"REFUSED NOTYET\n", 2),
-    (b";", b"REFUSED NOTYET\n", 2),
-    (b"Stop;", b"REFUSED NOTYET\n", 2),
-    (b"stop", b"REFUSED NOTYET\n", 2),
-    (b"/* stop;", b"REFUSED NOTYET\n", 2),
+    (b"foo; stop;", b"REFUSED TEXT Word 0\nSTOPPED\n", 0),
+    (b" foo;", b"REFUSED TEXT Word 0\n", 2),
+    (b";", b"REFUSED TEXT Word 0\n", 2),
+    (b"Stop;", b"STOPPED\n", 0),
+    (b"stop", b"REFUSED TEXT Unfinished 0\n", 2),
+    (b"/* stop;", b"REFUSED TEXT Unfinished 0\n", 2),
     (b"/* ; */stop;", b"STOPPED\n", 0),
     (b"* ;\nstop;", b"STOPPED\n", 0),
-    (b"'a;b'; stop;", b"REFUSED NOTYET\nSTOPPED\n", 0),
-    (b"\"a;b\"; stop;", b"REFUSED NOTYET\nSTOPPED\n", 0),
-    (b"a'b;c", b"REFUSED NOTYET\n", 2),
+    (b"'a;b'; stop;", b"REFUSED TEXT Word 0\nSTOPPED\n", 0),
+    (b"stop \"a;b\"; stop;", b"REFUSED TEXT Word 5\nSTOPPED\n", 0),
+    (b"a'b;c", b"REFUSED TEXT Unfinished 0\n", 2),
+    (b"select process;", b"REFUSED NOTYET\n", 2),
     (
         b"submit P1 PROCESS SNODE=BETA\nS1 COPY FROM (FILE=a.txt) TO (FILE=b.txt)\nPEND;",
         b"REFUSED NOTHOME\n",
@@ -104,17 +105,17 @@ const ANSWERS: [(&[u8], &[u8], u8); 24] = [
         b"HOME A 9223372036854775808\n",
         0,
     ),
-    (b"init name=A home=0000000000000000001;", b"HOME A 1\n", 0),
+    (b"init name=A home=00000000000000000001;", b"HOME A 1\n", 0),
     (
-        b"init name=A home=00000000000000000001;",
-        b"REFUSED NOTYET\n",
+        b"init name=A home=000000000000000000001;",
+        b"REFUSED TEXT Word 17\n",
         2,
     ),
-    (b"init name=A home=;", b"REFUSED NOTYET\n", 2),
-    (b"init home=1 name=A;", b"REFUSED NOTYET\n", 2),
+    (b"init name=A home=;", b"REFUSED TEXT Word 17\n", 2),
+    (b"INIT Home=1, name=A;", b"HOME A 1\n", 0),
     (
         b"init name=ABCDEFGHIJKLMNOPQ home=1;",
-        b"REFUSED NOTYET\n",
+        b"REFUSED TEXT Word 10\n",
         2,
     ),
     (
@@ -129,22 +130,73 @@ const ANSWERS: [(&[u8], &[u8], u8); 24] = [
     ),
 ];
 
-/// Submissions on a home with a name that aren't of the one form: they are refused, and change nothing.
-const OTHERS: [&[u8]; 14] = [
-    b"submit;",
-    b"submit p1 PROCESS SNODE=BETA S1 COPY FROM (FILE=a) TO (FILE=b) PEND;",
-    b"submit P1 process SNODE=BETA S1 COPY FROM (FILE=a) TO (FILE=b) PEND;",
-    b"submit COPY PROCESS SNODE=BETA S1 COPY FROM (FILE=a) TO (FILE=b) PEND;",
-    b"submit LONGLABEL PROCESS SNODE=BETA S1 COPY FROM (FILE=a) TO (FILE=b) PEND;",
-    b"submit P1 PROCESS SNODE= S1 COPY FROM (FILE=a) TO (FILE=b) PEND;",
-    b"submit P1 PROCESS S1 COPY FROM (FILE=a) TO (FILE=b) PEND;",
-    b"submit P1 PROCESS SNODE=BETA 1S COPY FROM (FILE=a) TO (FILE=b) PEND;",
-    b"submit P1 PROCESS SNODE=BETA S1 COPY FROM (FILE=journal) TO (FILE=b) PEND;",
-    b"submit P1 PROCESS SNODE=BETA S1 COPY FROM (FILE=a) TO (FILE=cfg/b) PEND;",
-    b"submit P1 PROCESS SNODE=BETA S1 COPY FROM (FILE=a-b) TO (FILE=b) PEND;",
-    b"submit P1 PROCESS SNODE=BETA S1 COPY FROM (FILE=) TO (FILE=b) PEND;",
-    b"submit P1 PROCESS SNODE=BETA S1 COPY FROM (FILE=a) TO (FILE=b) CKPT=1K PEND;",
-    b"submit P1 PROCESS SNODE=BETA S1 COPY FROM (FILE=a) TO (FILE=b) PEND PEND;",
+/// Commands on a home with a name that are refused, and change nothing, with the lines that answer them.
+const REFUSED: [(&[u8], &[u8]); 18] = [
+    (
+        b"submit G1 PROCESS SNODE=BETA\nA1 GOTO A1\nPEND;",
+        b"REFUSED TEXT Backward 30\n",
+    ),
+    (b"submit;", b"REFUSED TEXT Word 6\n"),
+    (b"submit hold;", b"REFUSED TEXT Unexpected 4\n"),
+    (
+        b"submit COPY PROCESS SNODE=BETA S1 COPY FROM (FILE=a) TO (FILE=b) PEND;",
+        b"REFUSED TEXT Unexpected 0\n",
+    ),
+    (
+        b"submit LONGLABEL PROCESS SNODE=BETA S1 COPY FROM (FILE=a) TO (FILE=b) PEND;",
+        b"REFUSED TEXT Range 0\n",
+    ),
+    (
+        b"submit P1 PROCESS SNODE=BETA 1S COPY FROM (FILE=a) TO (FILE=b) PEND;",
+        b"REFUSED TEXT Range 22\n",
+    ),
+    (
+        b"submit P1 PROCESS SNODE=BETA S1 COPY FROM (FILE=journal) TO (FILE=b) PEND;",
+        b"REFUSED TEXT Range 41\n",
+    ),
+    (
+        b"submit P1 PROCESS SNODE=BETA S1 COPY FROM (FILE=) TO (FILE=b) PEND;",
+        b"REFUSED TEXT Unexpected 41\n",
+    ),
+    (
+        b"submit P1 PROCESS SNODE=BETA S1 COPY FROM (FILE=a) TO (FILE=b) PEND PEND;",
+        b"REFUSED TEXT Unexpected 61\n",
+    ),
+    (
+        b"submit P1 PROCESS S1 COPY FROM (FILE=a) TO (FILE=b) PEND;",
+        b"REFUSED NONODE\n",
+    ),
+    (
+        b"submit P1 PROCESS SNODE=BETA S1 COPY FROM (FILE=a) TO (FILE=b) CKPT=1K PEND;",
+        b"REFUSED NOTYET\n",
+    ),
+    (
+        b"submit P1 PROCESS SNODE=BETA HOLD=YES S1 COPY FROM (FILE=a) TO (FILE=b) PEND;",
+        b"REFUSED NOTYET\n",
+    ),
+    (
+        b"submit prty=16 P1 PROCESS SNODE=BETA COPY FROM (FILE=a) TO (FILE=b) PEND;",
+        b"REFUSED TEXT Word 12\n",
+    ),
+    (
+        b"submit foo=1 P1 PROCESS SNODE=BETA COPY FROM (FILE=a) TO (FILE=b) PEND;",
+        b"REFUSED TEXT Word 7\n",
+    ),
+    (
+        b"submit P1 PROCESS SNODE=&b COPY FROM (FILE=a) TO (FILE=b) PEND;",
+        b"REFUSED TEXT Unresolved 17\n",
+    ),
+    (b"change process pnumber=1;", b"REFUSED TEXT Word 24\n"),
+    (b"select pro\x01cess;", b"REFUSED TEXT Word 10\n"),
+    (b"submit file=a.txt;", b"REFUSED NOTYET\n"),
+];
+
+/// Commands that submit the Process of the worked journal, each in its own way.
+const SAME: [&[u8]; 4] = [
+    b"SUBMIT p1 process snode=BETA s1 copy from (file=a.txt) to (file=b.txt) pend;",
+    b"submit P1 PROCESS, SNODE = BETA, PRTY=10 /* overnight; */ S1 COPY TO (FILE=\"b.txt\" DISP=RPL) FROM (FILE='a.txt' PNODE) PEND ;",
+    b"submit snode=BETA class=1 &f=a &End=txt P1 PROCESS CLASS=7 SNODE=GAMMA S1 COPY FROM (FILE=&F..&end) TO (FILE=b.txt) PEND;",
+    b"submit P1 PROCESS &g=b.txt -\nSNODE=BETA\n* A line of its own.\nS1 COPY FROM (FILE=a.txt) TO (FILE=&g) PEND;",
 ];
 
 #[test]
@@ -155,16 +207,32 @@ fn commands_and_their_answers(rt: HostRuntime) -> Result<(), Fail> {
         assert_eq!(rt; ran.out.bytes(), lines, "{commands:?}");
         assert_eq!(rt; ran.status.code(), status, "{commands:?}");
     }
-    for command in OTHERS {
+    Ok(())
+}
+
+#[test]
+fn refused_commands_change_nothing(rt: HostRuntime) -> Result<(), Fail> {
+    for (command, line) in REFUSED {
+        let mut machine = Machine::new(rt.alloc(), NAMED)?;
+        let ran = machine.run(command)?;
+        assert_eq!(rt; ran.out.bytes(), line, "{command:?}");
+        assert_eq!(rt; ran.status.code(), 2);
+        assert_eq!(rt; machine.bytes(), NAMED);
+    }
+    Ok(())
+}
+
+#[test]
+fn one_process_in_other_words(rt: HostRuntime) -> Result<(), Fail> {
+    for command in SAME {
         let mut machine = Machine::new(rt.alloc(), NAMED)?;
         let ran = machine.run(command)?;
         assert_eq!(rt;
             ran.out.bytes(),
-            b"REFUSED NOTYET\n".as_slice(),
+            b"PROCESS 1 SUBMITTED\n".as_slice(),
             "{command:?}"
         );
-        assert_eq!(rt; ran.status.code(), 2);
-        assert_eq!(rt; machine.bytes(), NAMED);
+        assert_eq!(rt; machine.bytes(), JOURNAL, "{command:?}");
     }
     Ok(())
 }

@@ -3,7 +3,7 @@ use Rattle.std.proofs.Common.{◌≡◌, ◌≢◌, ℕ, ◌+◌, ◌≤◌, ◌
 use Rattle.std.specs.Prelude.{IsTrue}
 use Rattle.std.specs.List.{list_all}
 use Rattle.std.proofs.lemmas.Bool.{leb-true, ltb-true, le-leb, lt-ltb}
-use Rattle.cd_types.specs.FileName.{is_file_name, is_text, is_own_file}
+use Rattle.cd_types.specs.FileName.{is_text}
 use Rattle.cd_types.specs.Filed.{card_bytes}
 use Rattle.cd_types.specs.Label.{is_label, is_label_byte, begins_with_letter, is_reserved, IsLabel}
 use Rattle.cd_types.specs.NodeName.{is_node_name, is_node_byte, IsNodeName}
@@ -14,12 +14,20 @@ use Rattle.cd_types.specs.TextLaw.{both_true}
 use Rattle.cd_entries.specs.declared.entry.Entry.{Entry}
 use Rattle.cd_entries.specs.declared.entry.Entry.TheVariants as entry
 use Rattle.cd_entries.specs.Entry.{entry_bytes, IsWritable}
-use Rattle.cd_turn.specs.Canonical.{plain_text, after_name, after_snode, after_step, after_from, after_to}
-use Rattle.cd_turn.specs.Upto.{upto_bytes}
+use Rattle.cd_ast.specs.Canonical.{canonical}
+use Rattle.cd_ast.specs.declared.process.Process.{Process}
+use Rattle.cd_filing.specs.Filing.{default_interval, is_push}
+use Rattle.cd_machine.specs.Ranges.{passes, within, is_timed, is_card}
+use Rattle.cd_reading.specs.Read.{canonical_reading}
+use Rattle.cd_types.specs.Choices.{hold_code, retain_code}
+use Rattle.cd_types.specs.declared.start.Card.{Card}
+use Rattle.cd_turn.specs.declared.order.Order.{Order}
+use Rattle.cd_turn.specs.declared.order.Order.TheVariants as order
+use Rattle.cd_turn.specs.Order.{IsKept, IsFormed}
+use Rattle.cd_turn.specs.Texts.{card_for, push_card, card_in}
 use Rattle.cd_turn.specs.Entries.{submitted_in, live_in, latest_in}
-use Rattle.cd_turn.specs.Legal.{IsNext, IsLegal, plain_card}
-use Rattle.cd_turn.specs.Plain.{Plain, IsPlain, Command, Init, Submit, Stop, is_plain_file, is_plain_byte}
-use Rattle.cd_turn.specs.Turn.{is_named, submission, added, IsFormed, MayKeep}
+use Rattle.cd_turn.specs.Legal.{IsNext, IsLegal}
+use Rattle.cd_turn.specs.Turn.{is_named, submission, submission_with, added, MayKeep}
 use Rattle.cd_turn.proofs.Legality.{live-legal}
 
 label_short : (text : List ℕ) → is_label text ≡ true → length text ≤ 8
@@ -35,89 +43,78 @@ node_short text form =
     let bounds = both_true (leb 1 (length text)) (leb (length text) 16) tests.0 in
     leb-true _ _ bounds.1
 
-file_short : (text : List ℕ) → is_plain_file text ≡ true → length text ≤ 1024
-file_short text form =
-    let own = both_true (is_file_name text) (list_all is_plain_byte text) form in
-    let a = both_true _ _ own.0 in
-    let b = both_true _ _ a.0 in
-    let c = both_true _ _ b.0 in
-    let d = both_true (leb 1 (length text)) (leb (length text) 1024) c.0 in
-    leb-true _ _ d.1
-
--- the length of the canonical text
-text_short : (p : Plain) → IsPlain p → length (plain_text p) ≤ 3000
-text_short p form =
-    let a = label_short p.name form.name in
-    let b = node_short p.snode form.snode in
-    let c = label_short p.step form.step in
-    let d = file_short p.from form.from in
-    let e = file_short p.to form.to in
-    let t5 = upto_bytes 34 after_to p.to in
-    let t4 = upto_bytes 34 after_from p.from ++ t5 in
-    let t3 = upto_bytes 32 after_step p.step ++ t4 in
-    let t2 = upto_bytes 32 after_snode p.snode ++ t3 in
-    let l1 : length (plain_text p) ≡ length (upto_bytes 32 after_name p.name) + length t2 = length-append (upto_bytes 32 after_name p.name) t2 in
-    let l2 : length t2 ≡ length (upto_bytes 32 after_snode p.snode) + length t3 = length-append (upto_bytes 32 after_snode p.snode) t3 in
-    let l3 : length t3 ≡ length (upto_bytes 32 after_step p.step) + length t4 = length-append (upto_bytes 32 after_step p.step) t4 in
-    let l4 : length t4 ≡ length (upto_bytes 34 after_from p.from) + length t5 = length-append (upto_bytes 34 after_from p.from) t5 in
-    let m1 : length (upto_bytes 32 after_name p.name) ≡ length p.name + 15 = length-append p.name (32 ∷ after_name) in
-    let m2 : length (upto_bytes 32 after_snode p.snode) ≡ length p.snode + 35 = length-append p.snode (32 ∷ after_snode) in
-    let m3 : length (upto_bytes 32 after_step p.step) ≡ length p.step + 18 = length-append p.step (32 ∷ after_step) in
-    let m4 : length (upto_bytes 34 after_from p.from) ≡ length p.from + 19 = length-append p.from (34 ∷ after_from) in
-    let m5 : length (upto_bytes 34 after_to p.to) ≡ length p.to + 32 = length-append p.to (34 ∷ after_to) in
-    omega arith
-
 counted : (n : ℕ) (text : List ℕ) → length (text_bytes n text) ≡ n + length text
 unfolding text_bytes
 counted n text = omega (arith, length-append (number_bytes n (length text)) text, number_has_length n (length text))
 
-card_short : (p : Plain) → IsPlain p → length (card_bytes (plain_card p)) ≤ 40
+card_short : (snode : List ℕ) (card : Card) → is_label card.name ≡ true → is_node_name snode ≡ true → length (card_bytes (card_for snode card)) ≤ 40
 unfolding card_bytes
-card_short p form =
-    let a = label_short p.name form.name in
-    let b = node_short p.snode form.snode in
+card_short snode card name node =
     let f6 = number_bytes 1 0 in
-    let f5 = number_bytes 1 0 ++ f6 in
-    let f4 = number_bytes 1 0 ++ f5 in
-    let f3 = number_bytes 1 1 ++ f4 in
-    let f2 = number_bytes 1 10 ++ f3 in
-    let f1 = text_bytes 1 p.snode ++ f2 in
-    let whole : length (card_bytes (plain_card p)) ≡ length (text_bytes 1 p.name) + length f1 = length-append (text_bytes 1 p.name) f1 in
+    let f5 = number_bytes 1 (retain_code card.retain) ++ f6 in
+    let f4 = number_bytes 1 (hold_code card.hold) ++ f5 in
+    let f3 = number_bytes 1 card.class ++ f4 in
+    let f2 = number_bytes 1 card.prty ++ f3 in
+    let f1 = text_bytes 1 snode ++ f2 in
+    let whole : length (card_bytes (card_for snode card)) ≡ length (text_bytes 1 card.name) + length f1 = length-append (text_bytes 1 card.name) f1 in
     omega (
       arith,
       whole,
-      counted 1 p.name,
-      counted 1 p.snode,
-      length-append (text_bytes 1 p.snode) f2,
-      length-append (number_bytes 1 10) f3,
-      length-append (number_bytes 1 1) f4,
-      length-append (number_bytes 1 0) f5,
-      length-append (number_bytes 1 0) f6,
-      number_has_length 1 10,
-      number_has_length 1 1,
+      label_short card.name name,
+      node_short snode node,
+      counted 1 card.name,
+      counted 1 snode,
+      length-append (text_bytes 1 snode) f2,
+      length-append (number_bytes 1 card.prty) f3,
+      length-append (number_bytes 1 card.class) f4,
+      length-append (number_bytes 1 (hold_code card.hold)) f5,
+      length-append (number_bytes 1 (retain_code card.retain)) f6,
+      number_has_length 1 card.prty,
+      number_has_length 1 card.class,
+      number_has_length 1 (hold_code card.hold),
+      number_has_length 1 (retain_code card.retain),
       number_has_length 1 0,
     )
 
-submission_short : (entries : List Entry) (now : ℕ) (p : Plain) → IsPlain p → length (entry_bytes (submission entries now p)) ≤ 262144
-submission_short entries now p form =
+-- a kept Process has a label and a partner in their form
+name_form : (process : Process) → IsKept process → is_label process.card.name ≡ true
+name_form process kept =
+    let a = both_true _ _ kept.card in
+    let b = both_true _ _ a.0 in
+    let c = both_true _ _ b.0 in
+    let d = both_true (is_label process.card.name) (passes is_node_name process.card.snode) c.0 in
+    d.0
+
+partner_form : (process : Process) (snode : List ℕ) → IsKept process → process.card.snode ≡ Some snode → is_node_name snode ≡ true
+partner_form process snode kept e =
+    let a = both_true _ _ kept.card in
+    let b = both_true _ _ a.0 in
+    let c = both_true _ _ b.0 in
+    let d = both_true (is_label process.card.name) (passes is_node_name process.card.snode) c.0 in
+    subst (λ (o : Option (List ℕ)). passes is_node_name o ≡ true) e d.1
+
+submission_short : (entries : List Entry) (now : ℕ) (snode : List ℕ) (process : Process) → IsKept process → process.card.snode ≡ Some snode → length (entry_bytes (submission entries now snode process)) ≤ 262144
+submission_short entries now snode process kept partner =
     let n = submitted_in entries + 1 in
     let moment = max now (latest_in entries) in
-    let f4 = text_bytes 4 (plain_text p) in
-    let f3 = card_bytes (plain_card p) ++ f4 in
+    let text = canonical process in
+    let f4 = text_bytes 4 text in
+    let f3 = card_bytes (card_for snode process.card) ++ f4 in
     let f2 = number_bytes 1 0 ++ f3 in
     let f1 = number_bytes 8 moment ++ f2 in
     let f0 = number_bytes 4 n ++ f1 in
-    let whole : length (entry_bytes (submission entries now p)) ≡ length (number_bytes 1 2) + length f0 = length-append (number_bytes 1 2) f0 in
+    let most : length text ≤ 200000 = kept.short in
+    let whole : length (entry_bytes (submission entries now snode process)) ≡ length (number_bytes 1 2) + length f0 = length-append (number_bytes 1 2) f0 in
     omega (
       arith,
       whole,
+      most,
       length-append (number_bytes 4 n) f1,
       length-append (number_bytes 8 moment) f2,
       length-append (number_bytes 1 0) f3,
-      length-append (card_bytes (plain_card p)) f4,
-      counted 4 (plain_text p),
-      card_short p form,
-      text_short p form,
+      length-append (card_bytes (card_for snode process.card)) f4,
+      counted 4 text,
+      card_short snode process.card (name_form process kept) (partner_form process snode kept partner),
       number_has_length 1 2,
       number_has_length 4 n,
       number_has_length 8 moment,
@@ -146,8 +143,14 @@ named_some : (entries : List Entry) → is_named entries ≡ true → entries �
 named_some [] named none = absurd cc
 named_some (e ∷ entries) named none = absurd cc
 
-submission_next : (entries : List Entry) (now : ℕ) (p : Plain) → IsLegal entries → IsPlain p → is_named entries ≡ true → live_in entries < 4096 → IsNext entries (submission entries now p)
-submission_next entries now p legal form named room =
+-- its text is read as it, with its card
+card_read : (snode : List ℕ) (process : Process) → IsKept process → process.card.snode ≡ Some snode → card_in (canonical process) ≡ Some (card_for snode process.card)
+unfolding card_in
+card_read snode process kept partner = ap push_card kept.read ∙ rw (kept.push, partner) refl
+
+submission_next : (entries : List Entry) (now : ℕ) (snode : List ℕ) (process : Process) → IsLegal entries → IsKept process → process.card.snode ≡ Some snode → is_named entries ≡ true → live_in entries < 4096
+    → IsNext entries (submission entries now snode process)
+submission_next entries now snode process legal kept partner named room =
     let live = live-legal entries legal in
     record {
       begun = named_some entries named;
@@ -156,24 +159,30 @@ submission_next entries now p legal form named room =
       room = room;
       later = omega arith;
       once = tt;
-      canonical = record { process = p; form = form; text_is = refl; card_is = refl };
+      canonical = card_read snode process kept partner;
     }
 
-submission_may : (entries : List Entry) (now : ℕ) (p : Plain) (e : Entry) → IsLegal entries → IsPlain p → cond (is_named entries && ltb (live_in entries) 4096) (Some (submission entries now p)) None ≡ Some e → MayKeep entries e
-submission_may entries now p e legal form h =
-    let kept = kept_if (is_named entries && ltb (live_in entries) 4096) (submission entries now p) e h in
-    let tests = both_true (is_named entries) (ltb (live_in entries) 4096) kept.0 in
-    let room : live_in entries < 4096 = ltb-true _ _ tests.1 in
-    let small : length (plain_text p) < 4294967296 = let most = text_short p form in omega arith in
-    subst (MayKeep entries) kept.1 (record {
-      next = submission_next entries now p legal form tests.0 room;
+partner_may : (entries : List Entry) (now : ℕ) (process : Process) (partner : Option (List ℕ)) (e : Entry) → IsLegal entries → IsKept process → process.card.snode ≡ partner → is_named entries ≡ true
+    → submission_with entries now process partner ≡ Some e → MayKeep entries e
+partner_may entries now process None e legal kept same named h = absurd cc
+partner_may entries now process (Some snode) e legal kept same named h =
+    let added = kept_if (ltb (live_in entries) 4096) (submission entries now snode process) e h in
+    let room : live_in entries < 4096 = ltb-true _ _ added.0 in
+    let small : length (canonical process) < 4294967296 = let most = kept.short in omega arith in
+    subst (MayKeep entries) added.1 (record {
+      next = submission_next entries now snode process legal kept same named room;
       writable = (tt, lt-ltb _ _ small);
-      short = submission_short entries now p form;
+      short = submission_short entries now snode process kept same;
     })
 
--- what a command adds
-pub added_may : (entries : List Entry) (now : ℕ) (command : Option Command) (e : Entry) → IsLegal entries → IsFormed command → added entries now command ≡ Some e → MayKeep entries e
-added_may entries now None e legal form h = absurd cc
-added_may entries now (Some Stop) e legal form h = absurd cc
-added_may entries now (Some (Init name home)) e legal form h = home_may entries name home e form h
-added_may entries now (Some (Submit p)) e legal form h = submission_may entries now p e legal form h
+submission_may : (entries : List Entry) (now : ℕ) (process : Process) (e : Entry) → IsLegal entries → IsKept process → cond (is_named entries) (submission_with entries now process process.card.snode) None ≡ Some e → MayKeep entries e
+submission_may [] now process e legal kept h = absurd cc
+submission_may (first ∷ entries) now process e legal kept h = partner_may (first ∷ entries) now process process.card.snode e legal kept refl refl h
+
+-- what an order adds
+pub added_may : (entries : List Entry) (now : ℕ) (wanted : Order) (e : Entry) → IsLegal entries → IsFormed wanted → added entries now wanted ≡ Some e → MayKeep entries e
+added_may entries now (order.Wrong name at) e legal form h = absurd cc
+added_may entries now order.NotBuilt e legal form h = absurd cc
+added_may entries now order.Stop e legal form h = absurd cc
+added_may entries now (order.Init name home) e legal form h = home_may entries name home e form h
+added_may entries now (order.Submit process) e legal form h = submission_may entries now process e legal form h

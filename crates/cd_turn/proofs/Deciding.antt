@@ -3,11 +3,6 @@ use Rattle.std.proofs.Common.{◌≡◌, ◌≢◌, ◌⊎◌, inl, inr, ℕ, �
 use Rattle.std.specs.Prelude.{All, IfSome}
 use Rattle.std.proofs.lemmas.Bool.{eqb-true, eq-eqb, leb-true, le-leb}
 use Rattle.std.proofs.lemmas.List.Elements.{All-nil, All-cons, All-head, All-tail}
-use Rattle.cd_types.specs.CompoundLaw.{IsBytes-after}
-use Rattle.cd_types.specs.Format.{IsBytes}
-use Rattle.cd_types.specs.Layout.{optional, proc_no, moment, key, card}
-use Rattle.cd_types.specs.Number.{number_bytes}
-use Rattle.cd_types.specs.Text.{text_bytes}
 use Rattle.cd_types.specs.declared.card.Filed.{Filed}
 use Rattle.cd_types.specs.declared.choices.Hold.{Hold}
 use Rattle.cd_types.specs.declared.choices.Hold.TheVariants as hold
@@ -16,12 +11,9 @@ use Rattle.cd_types.specs.declared.choices.Retain.TheVariants as retain
 use Rattle.cd_types.specs.declared.key.Key.{Key}
 use Rattle.cd_entries.specs.declared.entry.Entry.{Entry}
 use Rattle.cd_entries.specs.declared.entry.Entry.TheVariants as entry
-use Rattle.cd_entries.specs.Entry.{entry_bytes}
-use Rattle.cd_turn.specs.Canonical.{plain_in}
 use Rattle.cd_turn.specs.Entries.{submitted_in, live_in, latest_in, origin_of}
-use Rattle.cd_turn.specs.Legal.{IsNext, IsSubmission, IsText, plain_card}
-use Rattle.cd_turn.specs.Plain.{Plain}
-use Rattle.cd_turn.proofs.Texts.{text_yes, text_only, text_none}
+use Rattle.cd_turn.specs.Legal.{IsNext, IsSubmission}
+use Rattle.cd_turn.specs.Texts.{card_in, IsText}
 
 abbrev Decided : Type 0 → Type 0
 Decided P = P ⊎ (P → ⊥)
@@ -93,23 +85,37 @@ once_is : (entries : List Entry) (origin : Option Key) → Decided (IsOnce entri
 once_is entries None = inl tt
 once_is entries (Some step) = all_other step entries
 
-hold_is : (h : Hold) → Decided (h ≡ hold.No)
-hold_is hold.No = inl refl
-hold_is hold.Yes = inr (λ e. cc)
-hold_is hold.Call = inr (λ e. cc)
+hold_is : (a b : Hold) → Decided (a ≡ b)
+hold_is hold.No hold.No = inl refl
+hold_is hold.No hold.Yes = inr (λ e. cc)
+hold_is hold.No hold.Call = inr (λ e. cc)
+hold_is hold.Yes hold.No = inr (λ e. cc)
+hold_is hold.Yes hold.Yes = inl refl
+hold_is hold.Yes hold.Call = inr (λ e. cc)
+hold_is hold.Call hold.No = inr (λ e. cc)
+hold_is hold.Call hold.Yes = inr (λ e. cc)
+hold_is hold.Call hold.Call = inl refl
 
-retain_is : (r : Retain) → Decided (r ≡ retain.No)
-retain_is retain.No = inl refl
-retain_is retain.Yes = inr (λ e. cc)
-retain_is retain.Initial = inr (λ e. cc)
+retain_is : (a b : Retain) → Decided (a ≡ b)
+retain_is retain.No retain.No = inl refl
+retain_is retain.No retain.Yes = inr (λ e. cc)
+retain_is retain.No retain.Initial = inr (λ e. cc)
+retain_is retain.Yes retain.No = inr (λ e. cc)
+retain_is retain.Yes retain.Yes = inl refl
+retain_is retain.Yes retain.Initial = inr (λ e. cc)
+retain_is retain.Initial retain.No = inr (λ e. cc)
+retain_is retain.Initial retain.Yes = inr (λ e. cc)
+retain_is retain.Initial retain.Initial = inl refl
 
-start_is : (start : Option ℕ) → Decided (start ≡ None)
-start_is None = inl refl
-start_is (Some moment) = inr (λ e. cc)
+start_is : (a b : Option ℕ) → Decided (a ≡ b)
+start_is None None = inl refl
+start_is None (Some y) = inr (λ e. cc)
+start_is (Some x) None = inr (λ e. cc)
+start_is (Some x) (Some y) = carry (x ≡ y) (Some x ≡ Some y) (λ e. ap (λ (n : ℕ). Some n) e) (λ e. cc) (number_is x y)
 
-card_is : (c : Filed) (p : Plain) → Decided (c ≡ plain_card p)
-card_is c p =
-    carry ((c.name ≡ p.name) × ((c.snode ≡ p.snode) × ((c.prty ≡ 10) × ((c.class ≡ 1) × ((c.hold ≡ hold.No) × ((c.retain ≡ retain.No) × (c.start ≡ None))))))) (c ≡ plain_card p)
+card_is : (a b : Filed) → Decided (a ≡ b)
+card_is a b =
+    carry ((a.name ≡ b.name) × ((a.snode ≡ b.snode) × ((a.prty ≡ b.prty) × ((a.class ≡ b.class) × ((a.hold ≡ b.hold) × ((a.retain ≡ b.retain) × (a.start ≡ b.start))))))) (a ≡ b)
     (λ h i. record { name = h.0 i; snode = h.1.0 i; prty = h.1.1.0 i; class = h.1.1.1.0 i; hold = h.1.1.1.1.0 i; retain = h.1.1.1.1.1.0 i; start = h.1.1.1.1.1.1 i })
     (λ e. (
       ap (λ (f : Filed). f.name) e,
@@ -118,14 +124,14 @@ card_is c p =
         (ap (λ (f : Filed). f.prty) e, (ap (λ (f : Filed). f.class) e, (ap (λ (f : Filed). f.hold) e, (ap (λ (f : Filed). f.retain) e, ap (λ (f : Filed). f.start) e)))),
       ),
     ))
-    (both _ _ (list_is c.name p.name) (both _ _ (list_is c.snode p.snode) (both _ _ (number_is c.prty 10) (both _ _ (number_is c.class 1) (both _ _ (hold_is c.hold) (both _ _ (retain_is c.retain) (start_is c.start)))))))
+    (both _ _ (list_is a.name b.name) (both _ _ (list_is a.snode b.snode) (both _ _ (number_is a.prty b.prty) (both _ _ (number_is a.class b.class) (both _ _ (hold_is a.hold b.hold) (both _ _ (retain_is a.retain b.retain) (start_is a.start b.start)))))))
 
-text_is : (c : Filed) (text : List ℕ) → IsBytes text → Decided (IsText c text)
-text_is c text fit = by_read (plain_in text) refl
-  where
-    by_read : (found : Option Plain) → plain_in text ≡ found → Decided (IsText c text)
-    by_read None none = inr (text_none c text (sym none))
-    by_read (Some p) read = carry (c ≡ plain_card p) (IsText c text) (text_yes c text p fit (sym read)) (text_only c text p (sym read)) (card_is c p)
+found_is : (found : Option Filed) (c : Filed) → Decided (found ≡ Some c)
+found_is None c = inr (λ e. cc)
+found_is (Some kept) c = carry (kept ≡ c) (Some kept ≡ Some c) (λ e. ap (λ (f : Filed). Some f) e) (λ e. cc) (card_is kept c)
+
+text_is : (c : Filed) (text : List ℕ) → Decided (IsText c text)
+text_is c text = found_is (card_in text) c
 
 some_before : (entries : List Entry) → Decided (entries ≢ [])
 some_before [] = inr (λ some. some refl)
@@ -135,40 +141,24 @@ none_before : (entries : List Entry) → Decided (entries ≡ [])
 none_before [] = inl refl
 none_before (e ∷ entries) = inr (λ none. cc)
 
-submission_is : (entries : List Entry) (number moment : ℕ) (origin : Option Key) (c : Filed) (text : List ℕ) → IsBytes text → Decided (IsSubmission entries number moment origin c text)
-submission_is entries number moment origin c text fit =
+submission_is : (entries : List Entry) (number moment : ℕ) (origin : Option Key) (c : Filed) (text : List ℕ) → Decided (IsSubmission entries number moment origin c text)
+submission_is entries number moment origin c text =
     carry
     ((entries ≢ []) × ((number ≡ submitted_in entries + 1) × ((number ≤ 99999) × ((live_in entries < 4096) × ((latest_in entries ≤ moment) × (IsOnce entries origin × IsText c text))))))
     (IsSubmission entries number moment origin c text)
     (λ h. record { begun = h.0; next = h.1.0; last = h.1.1.0; room = h.1.1.1.0; later = h.1.1.1.1.0; once = h.1.1.1.1.1.0; canonical = h.1.1.1.1.1.1 })
     (λ is. (is.begun, (is.next, (is.last, (is.room, (is.later, (is.once, is.canonical)))))))
-    (both _ _ (some_before entries) (both _ _ (number_is number (submitted_in entries + 1)) (both _ _ (at_most number 99999) (both _ _ (below (live_in entries) 4096) (both _ _ (at_most (latest_in entries) moment) (both _ _ (once_is entries origin) (text_is c text fit)))))))
+    (both _ _ (some_before entries) (both _ _ (number_is number (submitted_in entries + 1)) (both _ _ (at_most number 99999) (both _ _ (below (live_in entries) 4096) (both _ _ (at_most (latest_in entries) moment) (both _ _ (once_is entries origin) (text_is c text)))))))
 
--- the text stands at the end of a submission's bytes
-text_fits : (n at : ℕ) (origin : Option Key) (c : Filed) (text : List ℕ) → IsBytes (entry_bytes (entry.Submitted n at origin c text)) → IsBytes text
-unfolding text_bytes
-text_fits n at origin c text fit =
-    let r4 = number_bytes 4 (length text) ++ text in
-    let r3 = card.spelled c ++ r4 in
-    let r2 = (optional key).spelled origin ++ r3 in
-    let r1 = moment.spelled at ++ r2 in
-    let r0 = proc_no.spelled n ++ r1 in
-    let f0 = IsBytes-after (number_bytes 1 2) r0 fit in
-    let f1 = IsBytes-after (proc_no.spelled n) r1 f0 in
-    let f2 = IsBytes-after (moment.spelled at) r2 f1 in
-    let f3 = IsBytes-after ((optional key).spelled origin) r3 f2 in
-    let f4 = IsBytes-after (card.spelled c) r4 f3 in
-    IsBytes-after (number_bytes 4 (length text)) text f4
-
-pub next_is : (entries : List Entry) (e : Entry) → IsBytes (entry_bytes e) → IsNext entries e ⊎ (IsNext entries e → ⊥)
-next_is entries (entry.Home name home) fit = none_before entries
-next_is entries (entry.Submitted number at origin c text) fit = submission_is entries number at origin c text (text_fits number at origin c text fit)
-next_is entries (entry.Placed number placing at) fit = inr (λ h. h)
-next_is entries (entry.Started step kind attempt at) fit = inr (λ h. h)
-next_is entries (entry.Receiving receiving) fit = inr (λ h. h)
-next_is entries (entry.Mark step offset) fit = inr (λ h. h)
-next_is entries (entry.Result step outcomes at) fit = inr (λ h. h)
-next_is entries (entry.Ended number place rc cause bytes at) fit = inr (λ h. h)
-next_is entries (entry.Closed number how at) fit = inr (λ h. h)
-next_is entries (entry.Forgot name home number) fit = inr (λ h. h)
-next_is entries (entry.Dropped step rc cause at) fit = inr (λ h. h)
+pub next_is : (entries : List Entry) (e : Entry) → IsNext entries e ⊎ (IsNext entries e → ⊥)
+next_is entries (entry.Home name home) = none_before entries
+next_is entries (entry.Submitted number at origin c text) = submission_is entries number at origin c text
+next_is entries (entry.Placed number placing at) = inr (λ h. h)
+next_is entries (entry.Started step kind attempt at) = inr (λ h. h)
+next_is entries (entry.Receiving receiving) = inr (λ h. h)
+next_is entries (entry.Mark step offset) = inr (λ h. h)
+next_is entries (entry.Result step outcomes at) = inr (λ h. h)
+next_is entries (entry.Ended number place rc cause bytes at) = inr (λ h. h)
+next_is entries (entry.Closed number how at) = inr (λ h. h)
+next_is entries (entry.Forgot name home number) = inr (λ h. h)
+next_is entries (entry.Dropped step rc cause at) = inr (λ h. h)

@@ -120,7 +120,7 @@ body_is entries body fit = by_read (entry_of body) refl
         ⊎_elim
         (λ (next : IsNext entries e). inl (e, is.0, is.1, next))
         (λ (not_next : IsNext entries e → ⊥). inr (inr (e, read, not_next)))
-        (next_is entries e (subst IsBytes is.0 fit))
+        (next_is entries e)
 
 -- these bodies are those of entries that may follow
 record AreGood (before : List Entry) (bodies : List (List ℕ)) : Type 0 where

@@ -3,26 +3,11 @@
 use Rattle.std.specs.Prelude.{◌≡◌, ◌≢◌, ℕ, ◌+◌, ◌<◌, ◌≤◌, List, [], ◌∷◌, ◌++◌, Option, Some, None, All, IfSome}
 use Rattle.cd_types.specs.declared.key.Key.{Key}
 use Rattle.cd_types.specs.declared.card.Filed.{Filed}
-use Rattle.cd_types.specs.declared.choices.Hold.TheVariants as hold
-use Rattle.cd_types.specs.declared.choices.Retain.TheVariants as retain
 use Rattle.cd_entries.specs.declared.entry.Entry.{Entry}
 use Rattle.cd_entries.specs.declared.entry.Entry.TheVariants as entry
 use Rattle.cd_entries.specs.Entry.{IsEntry}
-use Rattle.cd_turn.specs.Plain.{Plain, IsPlain}
-use Rattle.cd_turn.specs.Canonical.{plain_text}
+use Rattle.cd_turn.specs.Texts.{IsText}
 use Rattle.cd_turn.specs.Entries.{submitted_in, live_in, latest_in, origin_of}
-
--- the card of a Process of the one form: the priority and the class that hold where none is named, no hold, not kept, and
--- no start
-abbrev pub plain_card : Plain → Filed
-plain_card process = record { name = process.name; snode = process.snode; prty = 10; class = 1; hold = hold.No; retain = retain.No; start = None }
-
--- the text is the canonical one of a Process of the one form, and the card is that Process's
-pub record IsText (card : Filed) (text : List ℕ) : Type 0 where
-  pub process : Plain
-  pub form : IsPlain process
-  pub text_is : text ≡ plain_text process
-  pub card_is : card ≡ plain_card process
 
 -- a submission may follow these entries
 pub record IsSubmission (entries : List Entry) (number moment : ℕ) (origin : Option Key) (card : Filed) (text : List ℕ) : Type 0 where

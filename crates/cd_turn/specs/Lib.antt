@@ -1,10 +1,6 @@
-pub mod Words
-pub mod Upto
-pub mod UptoLaw
 pub mod Reply
-pub mod Plain
-pub mod PlainSeen
-pub mod Canonical
+pub mod Order
+pub mod Texts
 pub mod Entries
 pub mod Legal
 pub mod Turn

@@ -1,5 +1,5 @@
 //! A home: the entries of a journal, and what follows from them.
-ghost use Rattle.std.specs.Prelude.{◌≡◌, ◌≢◌, ◌⊎◌, ◌+◌, ◌*◌, ◌≤◌, ◌<◌, ◌^◌, ◌++◌, ◌∷◌, [], List, ℕ, length, map, vec_len, vec_capacity, slice_get, true, false, ⊤, Some, IsTrue, IfOk, OnOk, OnErr, IfSome, All, ◌↔◌};
+ghost use Rattle.std.specs.Prelude.{◌≡◌, ◌≢◌, ◌⊎◌, ◌+◌, ◌*◌, ◌≤◌, ◌<◌, ◌^◌, ◌++◌, ◌∷◌, [], List, ℕ, length, map, vec_len, vec_capacity, slice_get, true, false, ⊤, Some, None, IsTrue, IfOk, OnOk, OnErr, IfSome, All, ◌↔◌};
 ghost use Rattle.cd_outside.specs.Counts.{Rose};
 ghost use Rattle.cd_outside.specs.Doubt.{IsImage};
 ghost use Rattle.cd_outside.specs.Disk.{last_of, LeftAt};
@@ -11,15 +11,17 @@ ghost use Rattle.cd_entries.specs.Entry.{entry_bytes, IsEntry, IsWritable};
 ghost use Rattle.cd_turn.specs.Counts.{AreCounts};
 ghost use Rattle.cd_turn.specs.Entries.{is_submission, submitted_in, live_in, moment_of, latest_in, origin_of};
 ghost use Rattle.cd_turn.specs.Home.{StandsFor, IsHome, IsBad, HasBad, IsUnfit};
-ghost use Rattle.cd_turn.specs.Legal.{IsNext, IsLegal, IsText, IsSubmission, plain_card};
-ghost use Rattle.cd_turn.specs.PlainSeen.{seen_plain};
+ghost use Rattle.cd_turn.specs.Legal.{IsNext, IsLegal, IsSubmission};
+ghost use Rattle.cd_turn.specs.Texts.{card_for, filed_card, push_card, card_in, IsText};
 
-use crate::canonical::plain_in;
-use crate::plain::PlainCopy;
+use cd_ast::Process;
+use cd_book::Texts;
 use cd_entries::{Entry, EntryFault, read_entry, write_entry};
+use cd_filing::{DEFAULT_INTERVAL, is_push};
 use cd_journal::{Journal, JournalFault};
 use cd_outside::{Beat, Disk};
-use cd_types::{Filed, Hold, Key, Moment, ProcNo, Retain};
+use cd_reading::Canonical;
+use cd_types::{Card, Filed, Key, Moment, NoMemory, NodeName, ProcNo};
 use std::alloc::Global;
 use std::marker::Model;
 
@@ -48,17 +50,56 @@ impl Model for Home {
     ghost invariant = { λ home. AreCounts home.entries.items home.submitted home.latest };
 }
 
-pub fn plain_card(copy: &PlainCopy<'_>) -> Filed
-    ensures { result ≡ plain_card (seen_plain copy.now) }
+/// The card that is kept of a Process with this partner.
+pub fn card_for(snode: NodeName, card: &Card) -> Filed
+    ensures { result ≡ card_for snode card.now }
 {
     Filed {
-        name: copy.name,
-        snode: copy.snode,
-        prty: 10,
-        class: 1,
-        hold: Hold::No,
-        retain: Retain::No,
+        name: card.name,
+        snode,
+        prty: card.prty,
+        class: card.class,
+        hold: card.hold,
+        retain: card.retain,
         start: None,
+    }
+}
+
+fn filed_card(card: &Card) -> Option<Filed>
+    ensures card { result ≡ filed_card card.now }
+    ensures start { IfSome result (λ kept. kept.start ≡ None) }
+{
+    match card.snode {
+        Some(snode) => Some(card_for(snode, card)),
+        None => None,
+    }
+}
+
+fn push_card(process: &Option<Process>) -> Option<Filed>
+    ensures card { result ≡ push_card process.now }
+    ensures start { IfSome result (λ kept. kept.start ≡ None) }
+{
+    match process {
+        Some(process) => {
+            if is_push(process, Some(DEFAULT_INTERVAL)) {
+                filed_card(&process.card)
+            } else {
+                None
+            }
+        }
+        None => None,
+    }
+}
+
+// The card of the Process whose canonical text this is.
+#[tactic(auto, unfolding(crate::specs::Texts::card_in))]
+fn card_in(alloc: Global, text: &[u8]) -> Result<Option<Filed>, NoMemory>
+    ensures card { IfOk result (λ card. card ≡ card_in text.now) }
+    ensures start { IfOk result (λ card. IfSome card (λ kept. kept.start ≡ None)) }
+{
+    match Canonical.process(alloc, text) {
+        Ok(process) => Ok(push_card(&process)),
+        Err(fault) => Err(fault),
     }
 }
 
@@ -68,34 +109,33 @@ fn are_same(a: &[u8], b: &[u8]) -> bool
     a == b
 }
 
-// Whether the card is that of the Process.
-fn is_card_of(card: &Filed, copy: &PlainCopy<'_>) -> bool
-    ensures yes { IsTrue result → card.now ≡ plain_card (seen_plain copy.now) }
-    ensures only { card.now ≡ plain_card (seen_plain copy.now) → IsTrue result }
+// Whether two cards without a start of their own say the same.
+fn same_card(a: &Filed, b: &Filed) -> bool
+    requires { b.now.start ≡ None }
+    ensures yes { IsTrue result → a.now ≡ b.now }
+    ensures only { a.now ≡ b.now → IsTrue result }
 {
-    if !are_same(card.name.as_bytes(), copy.name.as_bytes()) {
+    if !are_same(a.name.as_bytes(), b.name.as_bytes()) {
         return false;
     }
-    if !are_same(card.snode.as_bytes(), copy.snode.as_bytes()) {
+    if !are_same(a.snode.as_bytes(), b.snode.as_bytes()) {
         return false;
     }
-    if card.prty != 10 || card.class != 1 || card.start.is_some() {
+    if a.prty != b.prty || a.class != b.class || a.start.is_some() {
         return false;
     }
-    match (card.hold, card.retain) {
-        (Hold::No, Retain::No) => true,
-        _ => false,
-    }
+    a.hold == b.hold && a.retain == b.retain
 }
 
 // Whether the text is the canonical one of a Process whose card this is.
-fn is_text(card: &Filed, text: &[u8]) -> bool
-    ensures yes { IsTrue result → IsText card.now text.now }
-    ensures only { IsText card.now text.now → IsTrue result }
+fn is_text(alloc: Global, card: &Filed, text: &[u8]) -> Result<bool, NoMemory>
+    ensures yes { IfOk result (λ is. IsTrue is → IsText card.now text.now) }
+    ensures only { IfOk result (λ is. IsText card.now text.now → IsTrue is) }
 {
-    match plain_in(text) {
-        Some(copy) => is_card_of(card, &copy),
-        None => false,
+    match card_in(alloc, text) {
+        Ok(Some(kept)) => Ok(same_card(card, &kept)),
+        Ok(None) => Ok(false),
+        Err(fault) => Err(fault),
     }
 }
 
@@ -196,44 +236,46 @@ impl Home {
         origin: &Option<Key>,
         card: &Filed,
         text: &[u8],
-    ) -> bool
+    ) -> Result<bool, NoMemory>
         requires { IsLegal self.now.entries }
-        ensures yes { IsTrue result → IsSubmission self.now.entries number moment origin.now card.now text.now }
-        ensures only { IsSubmission self.now.entries number moment origin.now card.now text.now → IsTrue result }
+        ensures yes { IfOk result (λ may. IsTrue may → IsSubmission self.now.entries number moment origin.now card.now text.now) }
+        ensures only { IfOk result (λ may. IsSubmission self.now.entries number moment origin.now card.now text.now → IsTrue may) }
     {
         if has_none(&self.entries) {
-            return false;
+            return Ok(false);
         }
         if self.submitted >= MOST_LIVE {
-            return false;
+            return Ok(false);
         }
         if number.number() != self.submitted + 1 {
-            return false;
+            return Ok(false);
         }
         if moment.seconds() < self.latest {
-            return false;
+            return Ok(false);
         }
         if !is_new(&self.entries, origin) {
-            return false;
+            return Ok(false);
         }
-        is_text(card, text)
+        match is_text(self.alloc, card, text) {
+            Ok(is) => Ok(is),
+            Err(fault) => Err(fault),
+        }
     }
 
     // Whether this entry may follow the entries.
-    fn is_next(&self, entry: &Entry) -> bool
+    fn is_next(&self, entry: &Entry) -> Result<bool, NoMemory>
         requires { IsLegal self.now.entries }
-        ensures yes { IsTrue result → IsNext self.now.entries entry.now }
-        ensures only { IsNext self.now.entries entry.now → IsTrue result }
+        ensures yes { IfOk result (λ is. IsTrue is → IsNext self.now.entries entry.now) }
+        ensures only { IfOk result (λ is. IsNext self.now.entries entry.now → IsTrue is) }
     {
         match entry {
-            Entry::Home(..) => has_none(&self.entries),
-            Entry::Submitted(number, moment, origin, card, text) => self.may_submit(
-                *number,
-                *moment,
-                origin,
-                card,
-                text.as_slice(),
-            ),
+            Entry::Home(..) => Ok(has_none(&self.entries)),
+            Entry::Submitted(number, moment, origin, card, text) => {
+                match self.may_submit(*number, *moment, origin, card, text.as_slice()) {
+                    Ok(may) => Ok(may),
+                    Err(fault) => Err(fault),
+                }
+            }
             Entry::Placed(..)
             | Entry::Started(..)
             | Entry::Receiving(_)
@@ -242,7 +284,7 @@ impl Home {
             | Entry::Ended(..)
             | Entry::Closed(..)
             | Entry::Forgot(..)
-            | Entry::Dropped(..) => false,
+            | Entry::Dropped(..) => Ok(false),
         }
     }
 
@@ -262,7 +304,11 @@ impl Home {
             Err(EntryFault::Unfit) => return Err(JournalFault::Unfit(at)),
             Err(EntryFault::NoMemory) => return Err(JournalFault::NoMemory),
         };
-        if !self.is_next(&entry) {
+        let is_next = match self.is_next(&entry) {
+            Ok(is_next) => is_next,
+            Err(_) => return Err(JournalFault::NoMemory),
+        };
+        if !is_next {
             return Err(JournalFault::Unfit(at));
         }
         self.entries.reserve(1)?;

@@ -1,19 +1,24 @@
 //! What the node answers to a command.
 ghost use Rattle.std.specs.Prelude.{◌≡◌, IfOk, string_bytes};
-ghost use Rattle.cd_turn.specs.Reply.{reply_text, refusal_text, is_refused};
+ghost use Rattle.cd_turn.specs.Reply.{reply_text, fault_word, refusal_text, is_refused};
 
+use cd_ast::FaultName;
 use cd_types::{NoMemory, NodeName, ProcNo};
 use std::alloc::Global;
 
 /// Why a command wasn't done. It then changed nothing.
 #[derive(Clone, Copy, Debug, PartialEq, Eq)]
 pub enum Refusal {
+    /// Its text, or the text of its Process, has this fault at this place.
+    Text(FaultName, u64),
     /// It is no command that is built.
     NotYet,
     /// The home has no name yet, and the command needs one.
     NotHome,
     /// The home has a name already.
     AlreadyHome,
+    /// Neither the Process nor the command names a partner.
+    NoNode,
     /// There are as many live Processes as there may be, which is this many.
     Full(u32),
 }
@@ -41,11 +46,48 @@ fn home_text(alloc: Global, name: NodeName, home: u64) -> Result<Vec<u8>, NoMemo
     Ok(text)
 }
 
+/// How a fault is called.
+#[tactic(auto, unfolding(crate::specs::Reply::fault_word))]
+fn fault_word(name: FaultName) -> &'static str
+    ensures { result.now ≡ fault_word name }
+{
+    match name {
+        FaultName::TooLong => "TooLong",
+        FaultName::Unresolved => "Unresolved",
+        FaultName::BadByte => "BadByte",
+        FaultName::OpenQuote => "OpenQuote",
+        FaultName::OpenComment => "OpenComment",
+        FaultName::Unexpected => "Unexpected",
+        FaultName::Range => "Range",
+        FaultName::TooMany => "TooMany",
+        FaultName::DoubleLabel => "DoubleLabel",
+        FaultName::NoLabel => "NoLabel",
+        FaultName::Backward => "Backward",
+        FaultName::IntoIf => "IntoIf",
+        FaultName::Unclosed => "Unclosed",
+        FaultName::SameSide => "SameSide",
+        FaultName::RetainStart => "RetainStart",
+        FaultName::Word => "Word",
+        FaultName::Unfinished => "Unfinished",
+        FaultName::ScriptText => "ScriptText",
+    }
+}
+
+fn fault_text(alloc: Global, name: FaultName, at: u64) -> Result<String, NoMemory>
+    ensures { IfOk result (λ text. string_bytes text ≡ refusal_text (Refusal.Text name at)) }
+{
+    let word = fault_word(name);
+    let text = format!(in alloc; "TEXT {word} {at}")?;
+    Ok(text)
+}
+
 impl Refusal {
     fn text(self, alloc: Global) -> Result<String, NoMemory>
         ensures { IfOk result (λ text. string_bytes text ≡ refusal_text self) }
     {
         let text = match self {
+            Refusal::Text(name, at) => fault_text(alloc, name, at)?,
+            Refusal::NoNode => String::from_str(alloc, "NONODE")?,
             Refusal::NotYet => String::from_str(alloc, "NOTYET")?,
             Refusal::NotHome => String::from_str(alloc, "NOTHOME")?,
             Refusal::AlreadyHome => String::from_str(alloc, "ALREADYHOME")?,

@@ -1,5 +1,5 @@
-//! One turn of the node: a command, its answer, and what it adds to the journal.
-ghost use Rattle.std.specs.Prelude.{◌≡◌, ◌+◌, ◌^◌, ◌<◌, ◌≤◌, ◌++◌, ◌∷◌, [], length, true, Some, option_map, option_to_list, IfOk, OnOk, OnErr, IfErr};
+//! One turn of the node: an order, its answer, and what it adds to the journal.
+ghost use Rattle.std.specs.Prelude.{◌≡◌, ◌+◌, ◌^◌, ◌<◌, ◌≤◌, ◌++◌, ◌∷◌, [], length, true, Some, option_to_list, IfOk, OnOk, OnErr, IfErr};
 ghost use Rattle.cd_outside.specs.Counts.{Rose};
 ghost use Rattle.cd_outside.specs.Disk.{last_of, LeftAt};
 ghost use Rattle.cd_outside.specs.Moments.{Moments};
@@ -9,20 +9,20 @@ ghost use Rattle.cd_entries.specs.Entry.{entry_bytes, IsEntry, IsWritable};
 ghost use Rattle.cd_turn.specs.Entries.{submitted_in};
 ghost use Rattle.cd_turn.specs.Home.{IsHome};
 ghost use Rattle.cd_turn.specs.Legal.{IsLegal, IsNext};
-ghost use Rattle.cd_turn.specs.PlainSeen.{seen_plain, seen_command};
+ghost use Rattle.cd_turn.specs.Order.{IsFormed};
 ghost use Rattle.cd_turn.specs.Reply.{reply_text};
 ghost use Rattle.cd_turn.specs.Ends.{MayLeave, journal_length, FitsBehind, HasReason, TookAtEnd};
-ghost use Rattle.cd_turn.specs.Turn.{is_named, submission_answer, answer, submission, added, IsFormed, MayKeep};
+ghost use Rattle.cd_turn.specs.Turn.{is_named, room_answer, partner_answer, submission_answer, answer, submission, submission_with, added, MayKeep};
 
-use crate::canonical::plain_text;
-use crate::home::{Home, MOST_LIVE, plain_card};
-use crate::plain::{Command, PlainCopy};
+use crate::home::{Home, MOST_LIVE, card_for};
+use crate::order::Order;
 use crate::reply::{Refusal, Reply};
 use crate::status::Status;
+use cd_ast::{Process, print};
 use cd_entries::Entry;
 use cd_journal::JournalFault;
 use cd_outside::{Beat, Disk, Sink};
-use cd_types::{Bytes, Moment, NoMemory, ProcNo};
+use cd_types::{Bytes, Moment, NoMemory, NodeName, ProcNo};
 use std::alloc::Global;
 
 fn is_named(entries: &[Entry]) -> bool
@@ -34,14 +34,11 @@ fn is_named(entries: &[Entry]) -> bool
     }
 }
 
-// What a submission is answered.
-fn submission_reply(home: &Home) -> Reply
+// What a submission is answered where there is a partner.
+fn room_reply(home: &Home) -> Reply
     requires { IsLegal home.now.entries }
-    ensures { result ≡ submission_answer home.now.entries }
+    ensures { result ≡ room_answer home.now.entries }
 {
-    if !is_named(home.entries()) {
-        return Reply::Refused(Refusal::NotHome);
-    }
     let live = home.live();
     if live >= MOST_LIVE {
         return Reply::Refused(Refusal::Full(MOST_LIVE));
@@ -52,31 +49,46 @@ fn submission_reply(home: &Home) -> Reply
     }
 }
 
-/// What the command is answered; a text that is none is no command.
-fn reply_to(home: &Home, command: &Option<Command<'_>>) -> Reply
+// What a submission is answered.
+fn submission_reply(home: &Home, process: &Process) -> Reply
     requires { IsLegal home.now.entries }
-    ensures { result ≡ answer home.now.entries (option_map seen_command command.now) }
+    ensures { result ≡ submission_answer home.now.entries process.now }
 {
-    match command {
-        None => Reply::Refused(Refusal::NotYet),
-        Some(Command::Stop) => Reply::Stopped,
-        Some(Command::Init(name, number)) => {
+    if !is_named(home.entries()) {
+        return Reply::Refused(Refusal::NotHome);
+    }
+    match process.card.snode {
+        Some(_) => room_reply(home),
+        None => Reply::Refused(Refusal::NoNode),
+    }
+}
+
+/// What an order is answered.
+fn reply_to(home: &Home, wanted: &Order) -> Reply
+    requires { IsLegal home.now.entries }
+    ensures { result ≡ answer home.now.entries wanted.now }
+{
+    match wanted {
+        Order::Wrong(name, at) => Reply::Refused(Refusal::Text(*name, *at)),
+        Order::NotBuilt => Reply::Refused(Refusal::NotYet),
+        Order::Stop => Reply::Stopped,
+        Order::Init(name, number) => {
             if is_named(home.entries()) {
                 Reply::Refused(Refusal::AlreadyHome)
             } else {
                 Reply::Home(*name, *number)
             }
         }
-        Some(Command::Submit(_)) => submission_reply(home),
+        Order::Submit(process) => submission_reply(home, process),
     }
 }
 
 // The line of that answer.
-fn line_of(alloc: Global, home: &Home, command: &Option<Command<'_>>) -> Result<Vec<u8>, NoMemory>
+fn line_of(alloc: Global, home: &Home, wanted: &Order) -> Result<Vec<u8>, NoMemory>
     requires { IsLegal home.now.entries }
-    ensures { IfOk result (λ text. text.items ≡ reply_text (answer home.now.entries (option_map seen_command command.now))) }
+    ensures { IfOk result (λ text. text.items ≡ reply_text (answer home.now.entries wanted.now)) }
 {
-    reply_to(home, command).text(alloc)
+    reply_to(home, wanted).text(alloc)
 }
 
 // The entry of a submission.
@@ -84,41 +96,66 @@ fn submission(
     alloc: Global,
     home: &Home,
     number: ProcNo,
-    copy: &PlainCopy<'_>,
+    snode: NodeName,
+    process: &Process,
     now: Moment,
 ) -> Result<Entry, NoMemory>
     requires { number ≡ submitted_in home.now.entries + 1 }
-    ensures { IfOk result (λ e. e ≡ submission home.now.entries now (seen_plain copy.now)) }
+    ensures { IfOk result (λ e. e ≡ submission home.now.entries now snode process.now) }
 {
-    let text = plain_text(alloc, copy)?;
+    let text = print(alloc, process)?;
     let moment = Moment::latest(now.seconds().max(home.latest()));
-    Ok(Entry::Submitted(number, moment, None, plain_card(copy), Bytes::new(text)))
+    let card = card_for(snode, &process.card);
+    Ok(Entry::Submitted(number, moment, None, card, Bytes::new(text)))
 }
 
-// What a command adds to the journal.
-fn entry_for(
+// What a submission adds to the journal.
+fn submission_entry(
     alloc: Global,
     home: &Home,
-    command: &Option<Command<'_>>,
+    process: &Process,
     now: Moment,
 ) -> Result<Option<Entry>, NoMemory>
     requires { IsLegal home.now.entries }
-    ensures { IfOk result (λ e. e ≡ added home.now.entries now (option_map seen_command command.now)) }
+    ensures { IfOk result (λ e. e ≡ submission_with home.now.entries now process.now process.now.card.snode) }
 {
-    match command {
-        None => Ok(None),
-        Some(Command::Stop) => Ok(None),
-        Some(Command::Init(name, number)) => {
+    let Some(snode) = process.card.snode else {
+        return Ok(None);
+    };
+    match room_reply(home) {
+        Reply::Submitted(number) => Ok(Some(submission(alloc, home, number, snode, process, now)?)),
+        _ => Ok(None),
+    }
+}
+
+// What an order adds to the journal.
+fn entry_for(
+    alloc: Global,
+    home: &Home,
+    wanted: &Order,
+    now: Moment,
+) -> Result<Option<Entry>, NoMemory>
+    requires { IsLegal home.now.entries }
+    ensures { IfOk result (λ e. e ≡ added home.now.entries now wanted.now) }
+{
+    match wanted {
+        Order::Wrong(..) | Order::NotBuilt | Order::Stop => Ok(None),
+        Order::Init(name, number) => {
             if is_named(home.entries()) {
                 Ok(None)
             } else {
                 Ok(Some(Entry::Home(*name, *number)))
             }
         }
-        Some(Command::Submit(copy)) => match submission_reply(home) {
-            Reply::Submitted(number) => Ok(Some(submission(alloc, home, number, copy, now)?)),
-            _ => Ok(None),
-        },
+        Order::Submit(process) => {
+            if !is_named(home.entries()) {
+                return Ok(None);
+            }
+            match submission_entry(alloc, home, process, now) {
+                Ok(entry) => Ok(entry),
+                Err(fault) => Err(fault),
+            }
+        }
     }
 }
 
@@ -200,35 +237,35 @@ fn keep_entry<P: Disk>(
     }
 }
 
-// Keeps what a command adds.
+// Keeps what an order adds.
 #[tactic(auto, using(crate::proofs::Adding::added_may, crate::proofs::Homes::rests_moments))]
 fn keep_added<P: Disk>(
     alloc: Global,
     home: &mut Home,
-    command: &Option<Command<'_>>,
+    wanted: &Order,
     now: Moment,
     journal: &mut P,
     beat: &mut Beat,
 ) -> Result<(), Status>
-    requires formed { IsFormed (option_map seen_command command.now) }
+    requires formed { IsFormed wanted.now }
     requires legal { IsLegal home.old.entries }
     requires sound { home.old.journal.sound ≡ true }
     requires home { P.told → IsHome home.old (P.state journal.old) }
     requires order { P.told → last_of (P.state journal.old).calls ≤ beat.old }
     ensures home { P.told → OnOk result (IsHome home.new (P.state journal.new)) }
-    ensures kept { OnOk result (home.new.entries ≡ home.old.entries ++ option_to_list (added home.old.entries now (option_map seen_command command.now))) }
+    ensures kept { OnOk result (home.new.entries ≡ home.old.entries ++ option_to_list (added home.old.entries now wanted.now)) }
     ensures legal { OnOk result (IsLegal home.new.entries) }
     ensures sound { OnOk result (home.new.journal.sound ≡ true) }
     ensures moments { P.told → Moments (LeftAt (P.state journal.old)) (LeftAt (P.state journal.new)) beat.old
         (MayLeave ((P.state journal.old).seen ≡ []) home.old.entries) }
     ensures fresh { P.told → OnOk result ((P.state journal.new).seen ≡ [] → (P.state journal.old).seen ≡ []) }
-    ensures reason { IfErr result (HasReason P.told (Rose (P.faults journal.old) (P.faults journal.new)) ⊥ home.old.entries (added home.old.entries now (option_map seen_command command.now))) }
-    ensures fits { P.told → OnOk result (FitsBehind home.old.entries (added home.old.entries now (option_map seen_command command.now))) }
+    ensures reason { IfErr result (HasReason P.told (Rose (P.faults journal.old) (P.faults journal.new)) ⊥ home.old.entries (added home.old.entries now wanted.now)) }
+    ensures fits { P.told → OnOk result (FitsBehind home.old.entries (added home.old.entries now wanted.now)) }
     ensures order { P.told → last_of (P.state journal.new).calls ≤ beat.new }
     ensures beat { beat.old ≤ beat.new }
     ensures later { P.faults journal.old ≤ P.faults journal.new }
 {
-    match entry_for(alloc, home, command, now) {
+    match entry_for(alloc, home, wanted, now) {
         Ok(Some(entry)) => keep_entry(home, entry, journal, beat),
         Ok(None) => Ok(()),
         Err(_) => Err(Status::NoMemory),
@@ -249,46 +286,46 @@ fn tell<O: Sink>(reply: Reply, text: &[u8], out: &mut O) -> Result<Reply, Status
     }
 }
 
-/// Does one command: decides the answer, keeps what the command adds, and then writes the answer. So what was answered is
+/// Does one order: decides the answer, keeps what the order adds, and then writes the answer. So what was answered is
 /// on the disk. Where it fails, the run ends; the output took a front of the answer where that is what failed, and else
 /// nothing.
 #[tactic(auto, using(crate::proofs::Homes::rests_moments))]
 pub fn make_turn<P: Disk, O: Sink>(
     alloc: Global,
     home: &mut Home,
-    command: &Option<Command<'_>>,
+    wanted: &Order,
     now: Moment,
     journal: &mut P,
     out: &mut O,
     beat: &mut Beat,
 ) -> Result<Reply, Status>
-    requires formed { IsFormed (option_map seen_command command.now) }
+    requires formed { IsFormed wanted.now }
     requires legal { IsLegal home.old.entries }
     requires sound { home.old.journal.sound ≡ true }
     requires home { P.told → IsHome home.old (P.state journal.old) }
     requires order { P.told → last_of (P.state journal.old).calls ≤ beat.old }
-    ensures reply { IfOk result (λ reply. reply ≡ answer home.old.entries (option_map seen_command command.now)) }
+    ensures reply { IfOk result (λ reply. reply ≡ answer home.old.entries wanted.now) }
     ensures out { O.told → IfOk result (λ reply. O.taken out.new ≡ O.taken out.old ++ reply_text reply) }
-    ensures took { O.told → IfErr result (λ status. TookAtEnd status (reply_text (answer home.old.entries (option_map seen_command command.now))) (O.taken out.old) (O.taken out.new)) }
+    ensures took { O.told → IfErr result (λ status. TookAtEnd status (reply_text (answer home.old.entries wanted.now)) (O.taken out.old) (O.taken out.new)) }
     ensures home { P.told → OnOk result (IsHome home.new (P.state journal.new)) }
-    ensures kept { OnOk result (home.new.entries ≡ home.old.entries ++ option_to_list (added home.old.entries now (option_map seen_command command.now))) }
+    ensures kept { OnOk result (home.new.entries ≡ home.old.entries ++ option_to_list (added home.old.entries now wanted.now)) }
     ensures legal { OnOk result (IsLegal home.new.entries) }
     ensures sound { OnOk result (home.new.journal.sound ≡ true) }
     ensures moments { P.told → Moments (LeftAt (P.state journal.old)) (LeftAt (P.state journal.new)) beat.old
         (MayLeave ((P.state journal.old).seen ≡ []) home.old.entries) }
     ensures fresh { P.told → OnOk result ((P.state journal.new).seen ≡ [] → (P.state journal.old).seen ≡ []) }
-    ensures reason { IfErr result (HasReason P.told (Rose (P.faults journal.old) (P.faults journal.new)) (Rose (O.faults out.old) (O.faults out.new)) home.old.entries (added home.old.entries now (option_map seen_command command.now))) }
-    ensures fits { P.told → OnOk result (FitsBehind home.old.entries (added home.old.entries now (option_map seen_command command.now))) }
+    ensures reason { IfErr result (HasReason P.told (Rose (P.faults journal.old) (P.faults journal.new)) (Rose (O.faults out.old) (O.faults out.new)) home.old.entries (added home.old.entries now wanted.now)) }
+    ensures fits { P.told → OnOk result (FitsBehind home.old.entries (added home.old.entries now wanted.now)) }
     ensures order { P.told → last_of (P.state journal.new).calls ≤ beat.new }
     ensures beat { beat.old ≤ beat.new }
     ensures later { P.faults journal.old ≤ P.faults journal.new }
     ensures later_out { O.faults out.old ≤ O.faults out.new }
 {
-    let Ok(text) = line_of(alloc, home, command) else {
+    let Ok(text) = line_of(alloc, home, wanted) else {
         return Err(Status::NoMemory);
     };
-    let reply = reply_to(home, command);
-    match keep_added(alloc, home, command, now, journal, beat) {
+    let reply = reply_to(home, wanted);
+    match keep_added(alloc, home, wanted, now, journal, beat) {
         Ok(()) => {}
         Err(status) => return Err(status),
     }

@@ -1,38 +1,43 @@
-use Rattle.std.proofs.Common.{◌≡◌, [], ap, sym, ◌∙◌, option_map}
+use Rattle.std.proofs.Common.{◌≡◌, [], ◌∷◌, ap, sym, ◌∙◌}
 use Rattle.cd_outside.specs.Counts.{Rose}
 use Rattle.cd_input.specs.Scanner.{event_of}
-use Rattle.cd_turn.specs.PlainSeen.{seen_command}
-use Rattle.cd_turn.specs.Turn.{answer, told_by}
+use Rattle.cd_turn.specs.Turn.{answer}
 use Rattle.cd_cli.specs.Flow.{was_refused, last_in, ends_by}
 use Rattle.cd_cli.specs.Run.{ends_run}
-use Rattle.cd_cli.proofs.Halting.{halted_one, keeps_behind, once_single}
+use Rattle.cd_cli.proofs.Halting.{halted_one, halted_none, keeps_behind, keeps_rest, once_single}
 use Rattle.cd_cli.proofs.Turning.{turned_one, answer_ends, or_false}
 use Rattle.cd_cli.proofs.run.found_turn.Goals as goal
 
+-- memory ran out before the turn
+pub returns-in-Err-clause-halted : goal.returns-in-Err-clause-halted
+returns-in-Err-clause-halted g c = λ was.
+    halted_none g.P.Disk.told g.C.Clock.told g.O.Sink.told (g.C.Clock.moment c.args.clock.now) c.args.home.now.entries (g.O.Sink.taken c.args.out.now) was (event_of c.args.found.now ∷ [])
+    (g.P.Disk.state c.args.journal.now) (λ told. keeps_rest c.args.home.now (g.P.Disk.state c.args.journal.now) c.requires.legal (c.requires.home told))
+
 -- the turn was made
-pub returns-in-Ok-clause-went : goal.returns-in-Ok-clause-went
-returns-in-Ok-clause-went g c = λ was.
+pub returns-in-Ok-make_turn-clause-went : goal.returns-in-Ok-make_turn-clause-went
+returns-in-Ok-make_turn-clause-went g c = λ was.
     let event = event_of c.args.found.now in
     let entries = c.args.home.now.entries in
-    let command = option_map seen_command c.command_in-command.result in
-    let e = c.command_in-command.ensures.told in
-    let is = c.in-Ok.ensures.reply in
+    let wanted = c.in-Ok.order in
+    let e = c.in-Ok.ensures.order in
+    let is = c.in-Ok-make_turn.ensures.reply in
     record {
       ends = c.flow_of.ensures.ends ∙ ap (ends_by event) (is ∙ ap (answer entries) e) ∙ answer_ends event entries ∙ sym (or_false (ends_run event));
       once = once_single event;
       turned = turned_one g.P.Disk.told g.C.Clock.told g.O.Sink.told (g.C.Clock.moment c.args.clock.now) entries c.make_turn.new.home.entries (g.O.Sink.taken c.args.out.now) (g.O.Sink.taken c.make_turn.new.out) was
-          (was_refused (last_in c.flow_of.result)) c.now-now.result event command c.in-Ok.reply e c.in-Ok.ensures.kept is (λ told. c.in-Ok.ensures.out told) (λ told. c.in-Ok.ensures.fits told) (λ told. c.now-now.ensures.moment told) c.flow_of.ensures.last;
+          (was_refused (last_in c.flow_of.result)) c.now-now.result event wanted c.in-Ok-make_turn.reply e c.in-Ok-make_turn.ensures.kept is (λ told. c.in-Ok-make_turn.ensures.out told) (λ told. c.in-Ok-make_turn.ensures.fits told)
+          (λ told. c.now-now.ensures.moment told) c.flow_of.ensures.last;
     }
 
 -- it ended the run
-pub returns-in-Err-clause-halted : goal.returns-in-Err-clause-halted
-returns-in-Err-clause-halted g c = λ was.
+pub returns-clause-halted : goal.returns-clause-halted
+returns-clause-halted g c = λ was.
     let event = event_of c.args.found.now in
     let entries = c.args.home.now.entries in
-    let command = option_map seen_command c.command_in-command.result in
     let before = g.P.Disk.state c.args.journal.now in
     let now = g.P.Disk.state c.make_turn.new.journal in
     halted_one g.P.Disk.told (Rose (g.P.Disk.faults c.args.journal.now) (g.P.Disk.faults c.make_turn.new.journal)) g.C.Clock.told g.O.Sink.told (Rose (g.O.Sink.faults c.args.out.now) (g.O.Sink.faults c.make_turn.new.out)) (g.C.Clock.moment c.args.clock.now) entries
-    (g.O.Sink.taken c.args.out.now) (g.O.Sink.taken c.make_turn.new.out) was c.now-now.result event command now c.in-Err.status
-    c.command_in-command.ensures.told c.in-Err.ensures.reason (λ told. c.in-Err.ensures.took told) (λ told. c.now-now.ensures.moment told)
-    (λ told. keeps_behind before now c.args.beat.now (before.seen ≡ []) entries (c.in-Err.ensures.moments told))
+    (g.O.Sink.taken c.args.out.now) (g.O.Sink.taken c.make_turn.new.out) was c.now-now.result event c.in-Ok.order now c.in-Err-make_turn.status
+    c.in-Ok.ensures.order c.in-Err-make_turn.ensures.reason (λ told. c.in-Err-make_turn.ensures.took told) (λ told. c.now-now.ensures.moment told)
+    (λ told. keeps_behind before now c.args.beat.now (before.seen ≡ []) entries (c.in-Err-make_turn.ensures.moments told))

@@ -23,8 +23,8 @@ returns-then-not-is_new-clause-only c = λ is.
     let same = c.deref-2.ensures.value ∙ ap (λ (home : HomeState). home.entries) c.self.view_is in
     w.1 (subst (IsOnce c.args.origin.now) (sym same) is.once)
 
-pub returns-clause-yes : goal.returns-clause-yes
-returns-clause-yes c = λ passed.
+pub returns-in-Ok-clause-yes : goal.returns-in-Ok-clause-yes
+returns-in-Ok-clause-yes c = λ passed.
     let numbers = c.self.invariant.numbers ∙ ap (λ (home : HomeState). submitted_in home.entries) c.self.view_is in
     let moments = c.self.invariant.moments ∙ ap (λ (home : HomeState). latest_in home.entries) c.self.view_is in
     let live = live-legal c.args.self.now.entries c.requires in
@@ -39,5 +39,5 @@ returns-clause-yes c = λ passed.
       room = omega arith;
       later = omega (arith, c.seconds.ensures.value);
       once = subst (IsOnce c.args.origin.now) same_too (w.0 refl);
-      canonical = c.is_text.ensures.yes passed;
+      canonical = c.in-Ok.ensures.yes passed;
     }

@@ -26,7 +26,7 @@ pub returns-clause-legal : goal.returns-clause-legal
 returns-clause-legal c =
     let e = c.in-Ok.entry in
     let form = (entry_only c.args.body.now e (λ i. omega (arith, c.type_inv.body i)) c.in-Ok.ensures.entry).1 in
-    let w = c.if-not-is_next.ensures in
+    let w = c.in-Ok-is_next.ensures in
     let same = ap (λ (home : HomeState). home.entries) c.self.view_is in
     let r = c.in_ok-reserve.ensures in
-    subst IsLegal (sym (grown c.add.new.entries.items c.reserve.new.self.items c.self.inside.entries.items c.args.self.now.entries e c.add.ensures.items r.items same)) (legal_push c.args.self.now.entries e c.requires form (w.yes refl))
+    subst IsLegal (sym (grown c.add.new.entries.items c.reserve.new.self.items c.self.inside.entries.items c.args.self.now.entries e c.add.ensures.items r.items same)) (legal_push c.args.self.now.entries e c.requires form (w.yes c.if-not-is_next.false))

@@ -1,0 +1,4 @@
+pub mod Intervals
+pub mod Pushes
+pub mod Cards
+pub mod Kept

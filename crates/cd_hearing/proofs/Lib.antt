@@ -1,0 +1,5 @@
+mod Firsts
+mod Converse
+mod Plain
+mod Resolved
+mod Told
