@@ -25,6 +25,15 @@ abbrev pub AreMade : ℕ → List Session → Type 0
 AreMade last [] = Unit {0}
 AreMade last (s ∷ sessions) = ((1 ≤ s.sid.number) × (s.sid.number ≤ last)) × AreMade last sessions
 
+-- The node's journal is the disk's, which was called at no later beat; it is legal, has a header, and has no moment later than now.
+pub record HasHome (disk_told : Type 0) (read : steps.Reading) (node : NodeState) (disk : DiskState) (beat now : ℕ) : Type 0 where
+  pub legal : is_legal read node.registry.entries ≡ true
+  pub on_time : latest node.registry.entries ≤ now
+  pub header : node.registry.journal.has_header ≡ true
+  pub sound : node.registry.journal.sound ≡ true
+  pub registry : disk_told → IsRegistry node.registry disk
+  pub order : disk_told → last_of disk.calls ≤ beat
+
 -- The node can be handed what happens: its journal is the disk's, legal, with a header, and has no moment later than now; no device
 -- was called at a later beat; its sessions were made; and a block has 1 to 65,536 bytes.
 pub record IsReady (disk_told files_told : Type 0) (read : steps.Reading) (node : NodeState) (disk : DiskState) (files : FilesState) (beat last now : ℕ) : Type 0 where

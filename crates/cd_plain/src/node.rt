@@ -1,9 +1,12 @@
 //! A node: what it has recorded, its sessions, and what it does with what happens.
-ghost use Rattle.std.specs.Prelude.{◌≡◌, ◌≤◌, ◌<◌, ◌⊎◌, ◌++◌, ◌∷◌, [], length, slice_get, slice_set, Some, None, Ok, Err, OnOk, IfOk, IfErr, IfSome};
+ghost use Rattle.std.specs.Prelude.{◌≡◌, ◌≤◌, ◌<◌, ◌⊎◌, ◌++◌, ◌∷◌, [], length, slice_get, slice_set, true, false, option_map, Some, None, Ok, Err, OnOk, OnErr, IfOk, IfErr, IfSome};
 ghost use Rattle.cd_outside.specs.Counts.{Rose};
 ghost use Rattle.cd_outside.specs.Lines.{NeverFell};
 ghost use Rattle.cd_legal.specs.Promises.{HavePriorities};
-ghost use Rattle.cd_plain.specs.NodeState.{AreMade, IsReady};
+ghost use Rattle.cd_moves.specs.Rows.{may_record};
+ghost use Rattle.cd_book.specs.Book.{IsRead};
+ghost use Rattle.cd_deeds.specs.Stands.{HasFormedOrigin};
+ghost use Rattle.cd_plain.specs.NodeState.{AreMade, IsReady, HasHome};
 ghost use Rattle.cd_plain.specs.Choice.{Accepted, WasChosen, WasConnected};
 ghost use Rattle.cd_plain.specs.Chosen.{busy_in, IsKnown};
 ghost use Rattle.cd_parts.specs.Desk.{desk_of};
@@ -15,10 +18,13 @@ ghost use Rattle.cd_plain.specs.Turned.{handled_of, in_phase, told, HadTurn, NoT
 use crate::choosing::{busy, greet, place};
 use crate::ending::Ending;
 use crate::handled::Handled;
+use crate::recording::try_record;
 use crate::rules::PlainRules;
 use crate::turn::take_turn;
+use cd_ast::Process;
 use cd_book::Texts;
 use cd_deeds::{Fault, Holders, Registry};
+use cd_entries::Entry;
 use cd_frames::Reader;
 use cd_moves::Phase;
 use cd_node::Session;
@@ -193,6 +199,46 @@ impl<T: Texts> Node<T> {
         self.readers.push(reader).unwrap();
         self.sessions.push(Session { sid, phase }).unwrap();
         Ok(())
+    }
+
+    /// Records an entry where it may be recorded now, and answers whether that was so. With a submission comes the Process that its text
+    /// reads as.
+    ///
+    /// `Disk` comes only where the count of the journal's faults rose. After it the home has to be opened again.
+    pub fn record<D: Disk>(
+        &mut self,
+        now: Moment,
+        entry: Entry,
+        process: Option<&Process>,
+        disk: &mut D,
+        beat: &mut Beat,
+    ) -> Result<bool, Fault>
+        requires formed { HasFormedOrigin entry }
+        requires read { IsRead T.read entry (option_map (λ p. p.now) process) }
+        requires home { HasHome D.told T.read self.old (D.state disk.old) beat.old now }
+        ensures kept { result ≡ Ok true → (may_record T.read now self.old.registry.entries entry ≡ true) × (self.new.registry.entries ≡ entry ∷ self.old.registry.entries) }
+        ensures refused { result ≡ Ok false → (may_record T.read now self.old.registry.entries entry ≡ false) × (self.new.registry ≡ self.old.registry) × (disk.new ≡ disk.old) × (beat.new ≡ beat.old) }
+        ensures err { OnErr result (self.new.registry.entries ≡ self.old.registry.entries) }
+        ensures home { OnOk result (HasHome D.told T.read self.new (D.state disk.new) beat.new now) }
+        ensures sessions { self.new.sessions ≡ self.old.sessions }
+        ensures config { self.new.config ≡ self.old.config }
+        ensures holdings { self.new.holdings ≡ self.old.holdings }
+        ensures disk { result ≡ Err Fault.Disk → Rose (D.faults disk.old) (D.faults disk.new) }
+        ensures beat { beat.old ≤ beat.new }
+        ensures disk_later { D.faults disk.old ≤ D.faults disk.new }
+    {
+        match try_record(
+            &mut self.registry,
+            &self.config,
+            now,
+            disk,
+            entry,
+            process,
+            beat,
+        ) {
+            Ok(recorded) => Ok(recorded),
+            Err(fault) => Err(fault),
+        }
     }
 
     /// The next session of another node is taken. `NoMore` where the lines have none.
