@@ -1,5 +1,5 @@
 -- What comes in a session.
-use Rattle.std.specs.Prelude.{◌≡◌, ◌⊎◌, ℕ, List, [], ◌∷◌, ◌++◌, Bool, true, false, not, Option, Some, None, is_some}
+use Rattle.std.specs.Prelude.{◌≡◌, ◌⊎◌, ℕ, List, [], ◌∷◌, ◌++◌, Bool, true, false, not, ◌==◌, Option, Some, None, is_some}
 use Rattle.cd_outside.specs.Counts.{Rose}
 use Rattle.cd_outside.specs.Lines.{Traffic, LineCounts}
 use Rattle.cd_entries.specs.declared.entry.Entry.{Entry}
@@ -38,7 +38,12 @@ CameSo came.Frame reader sid before now = is_some reader.given ≡ true
 CameSo came.Bad reader sid before now = IsRefused (front reader)
 CameSo came.End reader sid before now = Rose (before.ends sid) (now.ends sid) ⊎ Rose (before.faults sid) (now.faults sid)
 
--- bytes were taken, and nothing was given
-pub record Heard (before now : Traffic) : Type 0 where
+-- of no other session bytes were taken
+abbrev pub TookOfOne : ℕ → Traffic → Traffic → Type 0
+TookOfOne sid before now = (other : ℕ) → (sid == other) ≡ false → now.taken other ≡ before.taken other
+
+-- bytes were taken of one session, and nothing was given
+pub record Heard (sid : ℕ) (before now : Traffic) : Type 0 where
+  pub others : TookOfOne sid before now
   pub given : now.given ≡ before.given
   pub sends : now.sends ≡ before.sends
