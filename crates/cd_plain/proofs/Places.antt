@@ -115,6 +115,15 @@ read_set above last before now (t ∷ sessions) (r ∷ readings) (suc at) s phas
       read_set t.sid.number last before now sessions readings at s phase reader rising.1 is took was reads.1,
     )
 
+-- its phase alone was changed
+pub read_phase : (traffic : Traffic) (sessions : List Session) (readings : List Reading) (at : ℕ) (s : Session) (phase : Phase) → slice_get sessions at ≡ Some s → AreRead traffic sessions readings → AreRead traffic (slice_set sessions at (in_phase phase s)) readings
+read_phase traffic [] readings at s phase is reads = absurd cc
+read_phase traffic (t ∷ sessions) [] at s phase is reads = absurd reads
+read_phase traffic (t ∷ sessions) (r ∷ readings) zero s phase is reads =
+    let same : t ≡ s = cc in
+    (subst (λ (u : Session). WasRead (traffic.taken u.sid.number) r) same reads.0, reads.1)
+read_phase traffic (t ∷ sessions) (r ∷ readings) (suc at) s phase is reads = (reads.0, read_phase traffic sessions readings at s phase is reads.1)
+
 -- no byte was taken of any
 pub read_same : (before now : Traffic) (sessions : List Session) (readings : List Reading) → now.taken ≡ before.taken → AreRead before sessions readings → AreRead now sessions readings
 read_same before now [] [] same reads = tt

@@ -89,7 +89,7 @@ module _ (files_told lines_told : Type 0) (setting : Setting) (read : steps.Read
         | inr lost ↦ ended_taken row_end lost.at after lost.ended told ∙ end_stopped_taken row_trouble fault.Line before lost.at lost.stopped told
       ]
 
-  ended_then : (rule : Node → ℕ → ℕ → List Deed) (before after : Spot) (then_told : Traffic) → (lines_told → then_told ≡ after.traffic) → DidEnd files_told lines_told setting read sid now rule before after → DidEnd files_told lines_told setting read sid now rule before (heard_at then_told after)
+  pub ended_then : (rule : Node → ℕ → ℕ → List Deed) (before after : Spot) (then_told : Traffic) → (lines_told → then_told ≡ after.traffic) → DidEnd files_told lines_told setting read sid now rule before after → DidEnd files_told lines_told setting read sid now rule before (heard_at then_told after)
   ended_then rule before after then_told same ended = λ node is. done_then files_told lines_told sid (rule node sid now) before after then_told same (ended node is)
 
   gave_up_then : (before after : Spot) (then_told : Traffic) → (lines_told → then_told ≡ after.traffic) → GaveUp files_told lines_told setting read sid now before after → GaveUp files_told lines_told setting read sid now before (heard_at then_told after)

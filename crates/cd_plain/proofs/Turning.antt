@@ -18,7 +18,7 @@ use Rattle.cd_plain.specs.Turn.{MayBeLost, TookTurn, TurnFailed}
 use Rattle.cd_plain.specs.Turned.{handled_of, in_phase, others_at, place_of, spot_of, Told, HadTurn, FailedTurn}
 use Rattle.cd_plain.specs.declared.ending.Ending.{Ending}
 use Rattle.cd_plain.specs.declared.ending.Ending.TheVariants as an_ending
-use Rattle.cd_plain.proofs.Places.{get_set, rising_set, read_at, read_set}
+use Rattle.cd_plain.proofs.Places.{get_set, rising_set, read_at, read_phase, read_same, read_set}
 use Rattle.cd_plain.proofs.Taken.{turn_read, turn_others}
 
 -- a phase was taken out, and another one put back
@@ -87,3 +87,14 @@ module _ (files_told lines_told : Type 0) (read : steps.Reading) (now : ℕ) (si
         (subst (λ (n : ℕ). WasRead (now_told.traffic.taken n) reader) (sym number) read_now)
         (has.reads told)));
   }
+
+-- they stand as before where a session was left, too
+pub sessions_left : (lines_told : Type 0) (node after : NodeState) (before now : Traffic) (last at : ℕ) (s : Session) (phase : Phase) → slice_get node.sessions at ≡ Some s
+    → after.sessions ≡ slice_set node.sessions at (in_phase phase s) → after.readings ≡ node.readings → (lines_told → now.taken ≡ before.taken)
+    → HasSessions lines_told node before last → HasSessions lines_told after now last
+sessions_left lines_told node after before now last at s phase is sessions readings same has = record {
+  sids = subst (λ (l : List Session). AreRising 0 last l) (sym sessions) (rising_set 0 last node.sessions at s phase has.sids is);
+  reads = λ told. subst (λ (l : List Session). AreRead now l after.readings) (sym sessions)
+      (subst (λ (l : List Reading). AreRead now (slice_set node.sessions at (in_phase phase s)) l) (sym readings)
+      (read_phase now node.sessions node.readings at s phase is (read_same before now node.sessions node.readings (same told) (has.reads told))));
+}

@@ -7,11 +7,13 @@ use Rattle.cd_outside.specs.Shelf.{Shelf}
 use Rattle.cd_outside.specs.declared.sid.Sid.{Sid}
 use Rattle.cd_frames.specs.Reading.{Reading}
 use Rattle.cd_legal.specs.Steps as steps
+use Rattle.cd_moves.specs.Rows.{row_end}
 use Rattle.cd_moves.specs.declared.session.Phase.{Phase}
 use Rattle.cd_moves.specs.declared.session.Phase.TheVariants.{Gone}
 use Rattle.cd_deeds.specs.Stands.{Spot, spot}
 use Rattle.cd_deeds.specs.declared.fault.Fault.{Fault}
 use Rattle.cd_node.specs.declared.session.Session.{Session}
+use Rattle.cd_plain.specs.Handling.{DidEnd, EndStopped}
 use Rattle.cd_plain.specs.NodeState.{NodeState, is_gone}
 use Rattle.cd_plain.specs.Setting.{setting_of}
 use Rattle.cd_plain.specs.Turn.{MayBeLost, TookTurn, TurnFailed}
@@ -98,3 +100,26 @@ pub record FailedTurn (files_told lines_told : Type 0) (read : steps.Reading) (n
   pub readers : after.readings ≡ slice_set node.readings at reader
   pub failed : TurnFailed files_told lines_told (setting_of node.config) read sid.number now (others_at at session node.sessions) why before.counts now_told.counts reader_before reader
       (spot_of node session.phase before) (spot_of after phase now_told)
+
+-- The open session of a number was left: its end was handled, as the rules say, and it is in this phase then.
+pub record WasLeft (files_told lines_told : Type 0) (read : steps.Reading) (now : ℕ) (sid : Sid) (answer : Handled) (node after : NodeState) (before now_told : Told) : Type 0 where
+  pub at : ℕ
+  pub session : Session
+  pub phase : Phase
+  pub first : place_of sid.number node.sessions ≡ Some at
+  pub stands : slice_get node.sessions at ≡ Some session
+  pub sessions : after.sessions ≡ slice_set node.sessions at (in_phase phase session)
+  pub readings : after.readings ≡ node.readings
+  pub answered : answer ≡ handled.Lost sid
+  pub ended : DidEnd files_told lines_told (setting_of node.config) read sid.number now row_end (spot_of node session.phase before) (spot_of after phase now_told)
+
+-- what was done of that where a fault comes that ends the node's run
+pub record FailedLeaving (files_told lines_told : Type 0) (read : steps.Reading) (now : ℕ) (sid : Sid) (why : Fault) (node after : NodeState) (before now_told : Told) : Type 0 where
+  pub at : ℕ
+  pub session : Session
+  pub phase : Phase
+  pub first : place_of sid.number node.sessions ≡ Some at
+  pub stands : slice_get node.sessions at ≡ Some session
+  pub sessions : after.sessions ≡ slice_set node.sessions at (in_phase phase session)
+  pub readings : after.readings ≡ node.readings
+  pub failed : EndStopped files_told lines_told (setting_of node.config) read sid.number now row_end why (spot_of node session.phase before) (spot_of after phase now_told)

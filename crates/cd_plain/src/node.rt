@@ -17,7 +17,7 @@ ghost use Rattle.cd_parts.specs.Desk.{desk_of};
 ghost use Rattle.cd_plain.specs.Choice.{placing_of, Accepted, IsFaultOfAccepting, IsFaultOfPlacing, WasChosen, WasConnected, WasLost};
 ghost use Rattle.cd_plain.specs.Chosen.{busy_in, IsKnown, IsPlaced};
 ghost use Rattle.cd_plain.specs.NodeState.{is_gone, IsNewest, HasNewReader, KeptSessions, HasHome, HasSessions, IsReady};
-ghost use Rattle.cd_plain.specs.Turned.{handled_of, in_phase, is_open_as, place_of, told, HadTurn, NoTurn, FailedTurn};
+ghost use Rattle.cd_plain.specs.Turned.{handled_of, in_phase, is_open_as, place_of, told, HadTurn, NoTurn, FailedTurn, WasLeft, FailedLeaving};
 
 use crate::choosing::{busy, greet, place};
 use crate::ending::Ending;
@@ -31,7 +31,7 @@ use cd_deeds::{Fault, Holders, Registry};
 use cd_entries::Entry;
 use cd_frames::Reader;
 use cd_moves::Phase;
-use cd_node::Session;
+use cd_node::{Session, on_end};
 use cd_outside::{Beat, Disk, Files, Lines, Sid};
 use cd_parts::{Config, waits_of};
 use cd_types::{Moment, Row};
@@ -222,6 +222,81 @@ impl<T: Texts> Node<T> {
                 close_gone(lines, sid, &phase);
                 swap_phase(&mut self.sessions, at, phase);
                 Ok(handled(ending, sid))
+            }
+            Err(fault) => {
+                swap_phase(&mut self.sessions, at, phase);
+                Err(fault)
+            }
+        }
+    }
+
+    /// An open session is left: that counts as its end, and it is closed on this side, so that its partner finds its end too. Where no
+    /// open session has the number, that session is lost, and nothing is done.
+    ///
+    /// The causes of faults are those of a turn. After each `Err` the home has to be opened again.
+    pub fn leave<D: Disk, F: Files, L: Lines>(
+        &mut self,
+        sid: Sid,
+        now: Moment,
+        disk: &mut D,
+        files: &mut F,
+        lines: &mut L,
+        beat: &mut Beat,
+    ) -> Result<Handled, Fault>
+        requires priorities { HavePriorities T.read }
+        requires ready { IsReady D.told F.told L.told T.read self.old (D.state disk.old) (F.state files.old) (L.traffic lines.old) beat.old (L.last lines.old) now }
+
+        // What is done.
+        ensures left { IfOk result (λ handled. WasLeft F.told L.told T.read now sid handled self.old self.new
+            (told (F.state files.old).shelf (F.faults files.old) (L.traffic lines.old) (L.counts lines.old)) (told (F.state files.new).shelf (F.faults files.new) (L.traffic lines.new) (L.counts lines.new))
+            ⊎ NoTurn sid handled self.old self.new
+            (told (F.state files.old).shelf (F.faults files.old) (L.traffic lines.old) (L.counts lines.old)) (told (F.state files.new).shelf (F.faults files.new) (L.traffic lines.new) (L.counts lines.new))) }
+        ensures failed { IfErr result (λ fault. FailedLeaving F.told L.told T.read now sid fault self.old self.new
+            (told (F.state files.old).shelf (F.faults files.old) (L.traffic lines.old) (L.counts lines.old)) (told (F.state files.new).shelf (F.faults files.new) (L.traffic lines.new) (L.counts lines.new))) }
+
+        // What stands then.
+        ensures ready { OnOk result (IsReady D.told F.told L.told T.read self.new (D.state disk.new) (F.state files.new) (L.traffic lines.new) beat.new (L.last lines.new) now) }
+        ensures home { result ≢ Err Fault.Disk → HasHome D.told T.read self.new (D.state disk.new) beat.new now }
+        ensures legal { is_legal T.read self.new.registry.entries ≡ true }
+        ensures config { self.new.config ≡ self.old.config }
+        ensures full { (len : ℕ) → result ≡ Err (Fault.JournalFull len) → length_of self.new.registry.journal ≡ len }
+
+        // Why it fails.
+        ensures disk { result ≡ Err Fault.Disk → Rose (D.faults disk.old) (D.faults disk.new) }
+        ensures files { result ≡ Err Fault.Files → Rose (F.faults files.old) (F.faults files.new) }
+        ensures line { result ≡ Err Fault.Line → Rose ((L.counts lines.old).faults sid.number) ((L.counts lines.new).faults sid.number) }
+
+        ensures beat { beat.old ≤ beat.new }
+        ensures last { L.last lines.new ≡ L.last lines.old }
+        ensures disk_later { D.faults disk.old ≤ D.faults disk.new }
+        ensures files_later { F.faults files.old ≤ F.faults files.new }
+        ensures lines_later { NeverFell (L.counts lines.old) (L.counts lines.new) }
+    {
+        let Some(at) = place_of(&self.sessions, sid) else {
+            return Ok(Handled::Lost(sid));
+        };
+        let rules = PlainRules {
+            config: &self.config,
+        };
+        let mut phase = swap_phase(&mut self.sessions, at, Phase::Gone);
+        let ending = on_end(
+            self.alloc,
+            &rules,
+            &mut self.registry,
+            &mut phase,
+            &mut self.holders,
+            sid,
+            now,
+            disk,
+            files,
+            lines,
+            beat,
+        );
+        match ending {
+            Ok(()) => {
+                close_gone(lines, sid, &phase);
+                swap_phase(&mut self.sessions, at, phase);
+                Ok(Handled::Lost(sid))
             }
             Err(fault) => {
                 swap_phase(&mut self.sessions, at, phase);
