@@ -1,5 +1,5 @@
 -- Bytes that came go on with what a reader was given.
-use Rattle.std.proofs.Common.{◌≡◌, ◌⊎◌, inl, inr, ⊎_elim, ℕ, ◌≤◌, List, [], ◌∷◌, length, take, ◌++◌, true, false, Option, Some, None, Ok, Err, cond, eqb, refl, sym, ap, subst, ◌∙◌, arith}
+use Rattle.std.proofs.Common.{◌≡◌, inl, inr, ⊎_elim, ℕ, ◌≤◌, List, [], ◌∷◌, length, take, ◌++◌, true, false, Option, Some, None, Ok, Err, eqb, refl, sym, ap, subst, ◌∙◌, arith}
 use Rattle.std.proofs.lemmas.List.{append-nil}
 use Rattle.std.specs.Prelude.{is_some}
 use Rattle.std.proofs.lemmas.Bool.{eq-eqb, cond-true, cond-false, false≢true}
@@ -15,7 +15,7 @@ use Rattle.cd_frames.specs.Stream.{Front, gives, refuses, waits}
 use Rattle.cd_frames.specs.declared.frame.FrameFault.{FrameFault}
 use Rattle.cd_entries.specs.declared.entry.Entry.{Entry}
 use Rattle.cd_moves.specs.declared.session.Phase.{Phase}
-use Rattle.cd_plain.specs.Arriving.{and_one, came_frame, CameSo, IsRefused, Heard}
+use Rattle.cd_plain.specs.Arriving.{and_one, came_frame, CameSo, Heard}
 use Rattle.cd_plain.specs.Turn.{HasEnded, MayBeLost}
 use Rattle.cd_plain.specs.declared.arriving.Came.{Came}
 use Rattle.cd_plain.specs.declared.arriving.Came.TheVariants as came

@@ -1,16 +1,16 @@
 -- Sessions at their places, and their readers.
-use Rattle.std.proofs.Common.{◌≡◌, ℕ, zero, suc, ◌<◌, ◌≤◌, List, [], ◌∷◌, ◌++◌, length, true, false, Some, None, eqb, get_or, refl, sym, ap, subst, ◌∙◌, arith}
+use Rattle.std.proofs.Common.{◌≡◌, ℕ, zero, suc, ◌<◌, ◌≤◌, List, [], ◌∷◌, ◌++◌, length, false, Some, eqb, get_or, refl, sym, ap, subst, arith}
 use Rattle.std.specs.Prelude.{slice_get, slice_set, not}
 use Rattle.std.proofs.lemmas.Bool.{and_parts, eqb-true, ne_eqb}
 use Rattle.std.proofs.lemmas.List.Quantifiers.{position-Some}
 use Rattle.std.proofs.lemmas.Option.{slice_get-get_or}
 use Rattle.cd_outside.specs.Lines.{Traffic}
 use Rattle.cd_frames.specs.Reading.{Reading}
-use Rattle.cd_frames.specs.Run.{Run, made}
+use Rattle.cd_frames.specs.Run.{made}
 use Rattle.cd_node.specs.declared.session.Session.{Session}
 use Rattle.cd_moves.specs.declared.session.Phase.{Phase}
 use Rattle.cd_plain.specs.Arriving.{TookOfOne}
-use Rattle.cd_plain.specs.NodeState.{is_gone, AreRising, AreMade, IsNewest, WasRead, AreRead, IsUnread}
+use Rattle.cd_plain.specs.NodeState.{is_gone, AreRising, IsNewest, WasRead, AreRead, IsUnread}
 use Rattle.cd_plain.specs.Turned.{in_phase, is_open_as, place_of}
 
 pub record Found (sessions : List Session) (at number : ℕ) : Type 0 where

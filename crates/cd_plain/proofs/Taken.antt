@@ -1,5 +1,5 @@
 -- Deeds take no bytes of sessions, so what was heard in a turn is all that was taken in it.
-use Rattle.std.proofs.Common.{◌≡◌, ◌⊎◌, inl, inr, ⊎_elim, ℕ, List, [], ◌∷◌, ◌++◌, true, false, Option, Some, None, eqb, refl, sym, ap, subst, ◌∙◌}
+use Rattle.std.proofs.Common.{◌≡◌, inl, inr, ⊎_elim, ℕ, List, [], ◌∷◌, ◌++◌, eqb, refl, sym, ap, subst, ◌∙◌}
 use Rattle.std.proofs.lemmas.Bool.{eq-eqb, cond-true}
 use Rattle.cd_outside.specs.Lines.{Traffic, LineCounts, NeverFell, sent}
 use Rattle.cd_frames.specs.Frame.{frame_bytes}
@@ -9,15 +9,15 @@ use Rattle.cd_frames.specs.Run.{Run}
 use Rattle.cd_legal.specs.Steps as steps
 use Rattle.cd_moves.specs.Node.{Node, Deed, Keep, Touch, AskSize, AskBytes, Begin, Go, sends}
 use Rattle.cd_moves.specs.Rows.{row, row_end, row_trouble}
-use Rattle.cd_deeds.specs.Stands.{Spot, Stands, WereDone, WereCut, TrafficTorn, gave}
+use Rattle.cd_deeds.specs.Stands.{Spot, WereDone, WereCut, TrafficTorn, gave}
 use Rattle.cd_deeds.specs.declared.fault.Fault.{Fault}
 use Rattle.cd_deeds.specs.declared.fault.Fault.TheVariants as fault
-use Rattle.cd_node.specs.Going.{IsSo, WereLeft, WereStopped}
+use Rattle.cd_node.specs.Going.{WereLeft, WereStopped}
 use Rattle.cd_node.specs.Question.{Setting, desk_with}
 use Rattle.cd_node.specs.Sessions.{IsAt, phase_among, sessions_with}
 use Rattle.cd_node.specs.declared.session.Session.{Session}
 use Rattle.cd_plain.specs.Arriving.{TookOfOne}
-use Rattle.cd_plain.specs.Handling.{Case, the_case, IsOf, DidEnd, EndStopped, GaveUp, WasHandled}
+use Rattle.cd_plain.specs.Handling.{Case, the_case, DidEnd, EndStopped, GaveUp, WasHandled}
 use Rattle.cd_plain.specs.NodeState.{WasRead}
 use Rattle.cd_plain.specs.Turn.{TookTurn, heard_at}
 use Rattle.cd_plain.specs.declared.ending.Ending.{Ending}

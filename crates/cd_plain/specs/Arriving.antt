@@ -5,10 +5,8 @@ use Rattle.cd_outside.specs.Lines.{Traffic, LineCounts}
 use Rattle.cd_entries.specs.declared.entry.Entry.{Entry}
 use Rattle.cd_frames.specs.Message.{Message}
 use Rattle.cd_frames.specs.Reading.{Reading, front}
-use Rattle.cd_frames.specs.Stream.{Front, gives, refuses, waits}
+use Rattle.cd_frames.specs.Stream.{Front, refuses}
 use Rattle.cd_status.specs.Processes.{is_live}
-use Rattle.cd_moves.specs.Closing.{own_number}
-use Rattle.cd_moves.specs.declared.session.Phase.{Phase}
 use Rattle.cd_plain.specs.declared.arriving.Came.{Came}
 use Rattle.cd_plain.specs.declared.arriving.Came.TheVariants as came
 

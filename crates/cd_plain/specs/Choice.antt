@@ -1,5 +1,5 @@
 -- A session is taken, or begun for a Process that is due.
-use Rattle.std.specs.Prelude.{◌≡◌, ◌⊎◌, ◌<◌, ◌+◌, ◌^◌, ℕ, List, [], ◌∷◌, ◌++◌, length, true, false, Option, Some, None}
+use Rattle.std.specs.Prelude.{◌≡◌, ◌⊎◌, ◌<◌, ◌+◌, ◌^◌, ℕ, [], ◌∷◌, ◌++◌, length, true, false, Option, Some, None}
 use Rattle.cd_outside.specs.Counts.{Rose, next}
 use Rattle.cd_outside.specs.Lines.{LineCounts}
 use Rattle.cd_outside.specs.declared.sid.Sid.{Sid}
@@ -11,10 +11,9 @@ use Rattle.cd_moves.specs.Node.{Desk}
 use Rattle.cd_moves.specs.Rows.{row_chosen}
 use Rattle.cd_moves.specs.declared.session.Phase.{Phase}
 use Rattle.cd_moves.specs.declared.session.Phase.TheVariants.{Gone, Fresh}
-use Rattle.cd_deeds.specs.Stands.{Spot, spot, WereDone, WereCut}
+use Rattle.cd_deeds.specs.Stands.{Spot, WereDone, WereCut}
 use Rattle.cd_deeds.specs.declared.fault.Fault.{Fault}
 use Rattle.cd_deeds.specs.declared.fault.Fault.TheVariants as fault
-use Rattle.cd_node.specs.declared.session.Session.{Session}
 use Rattle.cd_parts.specs.Desk.{desk_of}
 use Rattle.cd_plain.specs.Chosen.{placed_in, IsKnown, IsPlaced}
 use Rattle.cd_plain.specs.NodeState.{NodeState, IsNewest, HasNewReader, KeptSessions}

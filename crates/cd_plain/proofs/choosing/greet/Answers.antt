@@ -1,15 +1,14 @@
-use Rattle.std.proofs.Common.{◌≡◌, List, true, Some, Err, map, sym, ap, subst, ◌∙◌}
+use Rattle.std.proofs.Common.{◌≡◌, List, true, Some, map, sym, ap, subst, ◌∙◌}
 use Rattle.cd_entries.specs.declared.entry.Entry.{Entry}
 use Rattle.cd_moves.specs.Node.{Deed, Part}
 use Rattle.cd_moves.specs.Rows.{are_allowed, row_chosen}
 use Rattle.cd_moves.specs.Seen.{seen_deed}
-use Rattle.cd_deeds.specs.Stands.{spot, WereCut}
-use Rattle.cd_deeds.specs.declared.fault.Fault.{Fault}
+use Rattle.cd_deeds.specs.Stands.{spot}
 use Rattle.cd_deeds.specs.declared.fault.Fault.TheVariants as fault
 use Rattle.cd_parts.specs.Desk.{desk_of}
 use Rattle.cd_parts.specs.Single.{keeps_none}
 use Rattle.cd_plain.proofs.Greeting.{chosen_allowed, chosen_none, chosen_fault, done_same, cut_same, not_of_disk}
-use Rattle.cd_plain.proofs.Taken.{done_taken, cut_taken}
+use Rattle.cd_plain.proofs.Taken.{cut_taken}
 use Rattle.cd_plain.proofs.choosing.greet.Goals as goal
 
 pub perform-requires-clause-allowed : goal.perform-requires-clause-allowed

@@ -1,10 +1,9 @@
-use Rattle.std.proofs.Common.{◌≡◌, ℕ, ◌<◌, ◌≤◌, List, [], ◌∷◌, ◌++◌, Option, Some, Ok, inl, refl, sym, ap, subst, ◌∙◌, arith}
+use Rattle.std.proofs.Common.{◌≡◌, ℕ, ◌<◌, [], ◌∷◌, ◌++◌, Option, Ok, inl, refl, sym, ap, subst, ◌∙◌, arith}
 use Rattle.std.specs.Prelude.{IfSome}
 use Rattle.cd_outside.specs.Lines.{Traffic, IsFresh, CountsIf, is_no_session}
 use Rattle.cd_outside.specs.declared.sid.Sid.{Sid}
 use Rattle.cd_moves.specs.declared.session.Phase.TheVariants.{Fresh}
 use Rattle.cd_node.specs.declared.session.Session.{Session}
-use Rattle.cd_plain.specs.NodeState.{IsNewest}
 use Rattle.cd_plain.proofs.Opening.{opened}
 use Rattle.cd_plain.proofs.Places.{newest_of}
 use Rattle.cd_plain.proofs.node.Node.accept.Goals as goal

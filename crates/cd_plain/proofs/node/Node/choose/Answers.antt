@@ -1,4 +1,4 @@
-use Rattle.std.proofs.Common.{◌≡◌, ◌⊎◌, ◌<◌, inl, inr, ⊎_elim, ℕ, List, true, Some, sym, ap, subst, ◌∙◌, arith}
+use Rattle.std.proofs.Common.{◌≡◌, inl, inr, ⊎_elim, true, Some, sym, ap, subst, ◌∙◌, arith}
 use Rattle.cd_types.specs.declared.rows.Row.{Row}
 use Rattle.cd_outside.specs.Lines.{Traffic}
 use Rattle.cd_moves.specs.Rows.{row_chosen}

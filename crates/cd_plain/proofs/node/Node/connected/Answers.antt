@@ -1,4 +1,4 @@
-use Rattle.std.proofs.Common.{◌≡◌, ◌≤◌, ◌<◌, ℕ, List, [], ◌∷◌, ◌++◌, true, Err, sym, ap, subst, ◌∙◌, arith}
+use Rattle.std.proofs.Common.{◌≡◌, ◌≤◌, ◌<◌, List, true, Err, sym, ap, subst, ◌∙◌, arith}
 use Rattle.cd_outside.specs.Lines.{Traffic}
 use Rattle.cd_entries.specs.declared.entry.Entry.{Entry}
 use Rattle.cd_frames.specs.Frame.{is_block}
@@ -9,9 +9,8 @@ use Rattle.cd_moves.specs.declared.session.Phase.TheVariants.{Gone}
 use Rattle.cd_deeds.specs.Registry.{RegistryState, IsRegistry}
 use Rattle.cd_deeds.specs.declared.fault.Fault.{Fault}
 use Rattle.cd_deeds.specs.declared.fault.Fault.TheVariants as fault
-use Rattle.cd_node.specs.declared.session.Session.{Session}
 use Rattle.cd_parts.specs.declared.config.Config.{Config}
-use Rattle.cd_plain.specs.NodeState.{NodeState, HasHome, IsReady, IsNewest, HasNewReader}
+use Rattle.cd_plain.specs.NodeState.{NodeState, IsReady, IsNewest, HasNewReader}
 use Rattle.cd_plain.proofs.Opening.{opened}
 use Rattle.cd_plain.proofs.node.Node.connected.Goals as goal
 

@@ -1,5 +1,4 @@
-use Rattle.std.proofs.Common.{◌≡◌, inl, ℕ, ◌<◌, ◌≤◌, List, Some, Err, refl, sym, ap, subst, ◌∙◌, arith}
-use Rattle.std.specs.Prelude.{slice_get, slice_set}
+use Rattle.std.proofs.Common.{◌≡◌, inl, ℕ, ◌≤◌, List, Some, Err, refl, sym, ap, subst, ◌∙◌, arith}
 use Rattle.cd_outside.specs.Lines.{Traffic}
 use Rattle.cd_moves.specs.Rows.{row_end}
 use Rattle.cd_moves.specs.declared.session.Phase.{Phase}
