@@ -1,8 +1,8 @@
 -- Bytes that came go on with what a reader was given.
-use Rattle.std.proofs.Common.{◌≡◌, ◌⊎◌, inl, inr, ⊎_elim, ℕ, List, [], ◌∷◌, length, take, ◌++◌, true, false, Option, Some, None, Ok, Err, cond, eqb, refl, sym, ap, subst, ◌∙◌, arith}
+use Rattle.std.proofs.Common.{◌≡◌, inl, inr, ⊎_elim, ℕ, ◌≤◌, List, [], ◌∷◌, length, take, ◌++◌, true, false, Option, Some, None, Ok, Err, eqb, refl, sym, ap, subst, ◌∙◌, arith}
 use Rattle.std.proofs.lemmas.List.{append-nil}
 use Rattle.std.specs.Prelude.{is_some}
-use Rattle.std.proofs.lemmas.Bool.{eq-eqb, cond-true, false≢true}
+use Rattle.std.proofs.lemmas.Bool.{eq-eqb, cond-true, cond-false, false≢true}
 use Rattle.cd_outside.specs.Counts.{Rose}
 use Rattle.cd_types.specs.Format.{IsBytes}
 use Rattle.cd_types.specs.NumberLaw.{IsBytes-take}
@@ -13,7 +13,10 @@ use Rattle.cd_frames.specs.ReadingLaw.{overwritten_all}
 use Rattle.cd_frames.specs.Run.{Run, lent, filled, stepped, given_by}
 use Rattle.cd_frames.specs.Stream.{Front, gives, refuses, waits}
 use Rattle.cd_frames.specs.declared.frame.FrameFault.{FrameFault}
-use Rattle.cd_plain.specs.Arriving.{and_one, came_frame, CameSo, IsRefused, Heard}
+use Rattle.cd_entries.specs.declared.entry.Entry.{Entry}
+use Rattle.cd_moves.specs.declared.session.Phase.{Phase}
+use Rattle.cd_plain.specs.Arriving.{and_one, came_frame, CameSo, Heard}
+use Rattle.cd_plain.specs.Turn.{HasEnded, MayBeLost}
 use Rattle.cd_plain.specs.declared.arriving.Came.{Came}
 use Rattle.cd_plain.specs.declared.arriving.Came.TheVariants as came
 
@@ -64,8 +67,22 @@ pub waits_same : (reader : Reading) (f : Front) → f ≡ front reader → Ok fa
 waits_same reader f is says = ap (λ (g : Front). (gone_past reader g).rest) (sym is ∙ waits_is f says)
 
 -- one run of calls behind another
-pub heard_then : (first middle last : Traffic) → Heard first middle → Heard middle last → Heard first last
-heard_then first middle last one two = record { given = two.given ∙ one.given; sends = two.sends ∙ one.sends }
+pub heard_then : (sid : ℕ) (first middle last : Traffic) → Heard sid first middle → Heard sid middle last → Heard sid first last
+heard_then sid first middle last one two = record { others = λ other apart. two.others other apart ∙ one.others other apart; given = two.given ∙ one.given; sends = two.sends ∙ one.sends }
+
+pub took_heard : (sid : ℕ) (bytes : List ℕ) (before now : Traffic) → now ≡ took sid bytes before → Heard sid before now
+took_heard sid bytes before now is = record {
+  others = λ other apart. ap (λ (t : Traffic). t.taken other) is ∙ cond-false (eqb sid other) (before.taken sid ++ bytes) (before.taken other) apart;
+  given = ap (λ (t : Traffic). t.given) is;
+  sends = ap (λ (t : Traffic). t.sends) is;
+}
+
+pub none_heard : (sid : ℕ) (before now : Traffic) → now ≡ before → Heard sid before now
+none_heard sid before now is = record {
+  others = λ other apart. ap (λ (t : Traffic). t.taken other) is;
+  given = ap (λ (t : Traffic). t.given) is;
+  sends = ap (λ (t : Traffic). t.sends) is;
+}
 
 pub fell_then : (first middle last : LineCounts) → NeverFell first middle → NeverFell middle last → NeverFell first last
 fell_then first middle last one two = record {
@@ -76,12 +93,27 @@ fell_then first middle last one two = record {
   nones = omega (arith, one.nones, two.nones);
 }
 
+-- a count that rose, beside others that never fell
+pub rose_later : (first middle last : ℕ) → Rose first middle → middle ≤ last → Rose first last
+rose_later first middle last rose later = omega (arith, rose, later)
+
+pub later_rose : (first middle last : ℕ) → first ≤ middle → Rose middle last → Rose first last
+later_rose first middle last later rose = omega (arith, later, rose)
+
 -- where no frame came, the session ended, or gave what is none
-pub ended_so : (came : Came) (reader : Reading) (sid : ℕ) (before middle now : LineCounts) → CameSo came reader sid before middle → came_frame came reader.given ≡ None → NeverFell middle now
-    → IsRefused (front reader) ⊎ (Rose (before.ends sid) (now.ends sid) ⊎ Rose (before.faults sid) (now.faults sid))
+pub ended_later : (reader : Reading) (sid : ℕ) (before middle now : LineCounts) → HasEnded reader sid before middle → NeverFell middle now → HasEnded reader sid before now
+ended_later reader sid before middle now so later = ⊎_elim
+    (λ bad. inl bad)
+    (λ ends. inr (⊎_elim
+    (λ ended. inl (rose_later (before.ends sid) (middle.ends sid) (now.ends sid) ended (later.ends sid)))
+    (λ failed. inr (rose_later (before.faults sid) (middle.faults sid) (now.faults sid) failed (later.faults sid)))
+    ends))
+    so
+
+pub lost_later : (entries : List Entry) (phase : Phase) (reader : Reading) (sid : ℕ) (before middle now : LineCounts) → MayBeLost entries phase reader sid before middle → NeverFell middle now → MayBeLost entries phase reader sid before now
+lost_later entries phase reader sid before middle now so later = ⊎_elim (λ over. inl over) (λ ended. inr (ended_later reader sid before middle now ended later)) so
+
+pub ended_so : (came : Came) (reader : Reading) (sid : ℕ) (before middle now : LineCounts) → CameSo came reader sid before middle → came_frame came reader.given ≡ None → NeverFell middle now → HasEnded reader sid before now
 ended_so came.Frame reader sid before middle now so none later = absurd (false≢true (ap (λ (o : Option Message). is_some o) (sym none) ∙ so))
 ended_so came.Bad reader sid before middle now so none later = inl so
-ended_so came.End reader sid before middle now so none later = inr (⊎_elim
-    (λ ended. inl (let more = later.ends sid in omega (arith, ended, more)))
-    (λ failed. inr (let more = later.faults sid in omega (arith, failed, more)))
-    so)
+ended_so came.End reader sid before middle now so none later = ended_later reader sid before middle now (inr so) later

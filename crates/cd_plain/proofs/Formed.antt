@@ -1,5 +1,5 @@
 -- Deeds that submit nothing have formed origins.
-use Rattle.std.proofs.Common.{◌≡◌, Bool, true, false, ◌&&◌, List, [], ◌∷◌}
+use Rattle.std.proofs.Common.{◌≡◌, true, List, [], ◌∷◌}
 use Rattle.std.specs.Prelude.{not}
 use Rattle.std.proofs.lemmas.Bool.{and_parts, false≢true}
 use Rattle.cd_entries.specs.declared.entry.Entry.{Entry}

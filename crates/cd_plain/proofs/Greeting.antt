@@ -1,9 +1,10 @@
 -- The first frame of a session may be sent.
-use Rattle.std.proofs.Common.{◌≡◌, ℕ, List, [], ◌∷◌, true, ◌&&◌, Option, Some, None, refl, sym, ap, ◌∙◌}
+use Rattle.std.proofs.Common.{◌≡◌, ℕ, List, [], ◌∷◌, ◌++◌, true, ◌&&◌, Option, Some, None, refl, sym, ap, subst, ◌∙◌}
 use Rattle.std.proofs.lemmas.Bool.{and_from, false≢true}
 use Rattle.cd_types.specs.declared.rows.Row.{Row}
 use Rattle.cd_entries.specs.declared.entry.Entry.{Entry}
 use Rattle.cd_frames.specs.Frame.{is_block}
+use Rattle.cd_frames.specs.Message.{Message}
 use Rattle.cd_status.specs.Processes.{own_home}
 use Rattle.cd_status.specs.Queue.{Waits}
 use Rattle.cd_legal.specs.Steps.{Reading}
@@ -13,9 +14,12 @@ use Rattle.cd_moves.specs.Node.{Desk, Node, Deed, Keep, Touch, AskSize, AskBytes
 use Rattle.cd_moves.specs.Rows.{is_sendable, are_allowed, hello, call, row_chosen}
 use Rattle.cd_outside.specs.Lines.{Traffic}
 use Rattle.cd_outside.specs.Shelf.{Shelf}
-use Rattle.cd_deeds.specs.Stands.{Spot, spot, WereDone, holder_of, gave}
+use Rattle.cd_deeds.specs.Stands.{Spot, spot, WereDone, WereCut, holder_of, gave, IsFaultOf, IsFaultOfSending}
+use Rattle.cd_deeds.specs.declared.fault.Fault.{Fault}
+use Rattle.cd_deeds.specs.declared.fault.Fault.TheVariants as fault
 use Rattle.cd_deeds.specs.declared.holders.Holding.{Holding}
 use Rattle.cd_parts.specs.Single.{keeps_none}
+use Rattle.cd_plain.specs.Choice.{IsTooLong, IsFaultOfPlacing}
 use Rattle.cd_plain.specs.Chosen.{IsCalled, IsKnown}
 
 hello_allowed : (read : Reading) (now : ℕ) (journal : List Entry) (n block : ℕ) (own : Option (List ℕ × ℕ)) → is_block block ≡ true → are_allowed read now journal (Go (Greet n) (hello own block) ∷ []) ≡ true
@@ -59,12 +63,81 @@ call_none desk now chosen (Some waits) known = refl
 pub chosen_none : (desk : Desk) (now : ℕ) (chosen : Row) → IsKnown desk chosen → keeps_none (row_chosen desk now true (Some chosen)) ≡ true
 chosen_none desk now chosen known = call_none desk now chosen (desk.config.partner chosen.snode) known
 
+-- where they are cut off too
+front_none : (front behind : List Deed) → keeps_none (front ++ behind) ≡ true → keeps_none front ≡ true
+front_none [] behind none = refl
+front_none (Keep e ∷ front) behind none = absurd (false≢true none)
+front_none (Touch change ∷ front) behind none = front_none front behind none
+front_none (AskSize name ∷ front) behind none = front_none front behind none
+front_none (AskBytes name at len ∷ front) behind none = front_none front behind none
+front_none (Begin key phase ∷ front) behind none = front_none front behind none
+front_none (Go phase frames ∷ front) behind none = front_none front behind none
+
+pub cut_same : (files_told lines_told : Type 0) (sid : ℕ) (deeds : List Deed) (why : Fault) (before after : Spot) → keeps_none deeds ≡ true → WereCut files_told lines_told sid deeds why before after → after.entries ≡ before.entries
+cut_same files_told lines_told sid deeds why before after none cut =
+    cut.rest.entries
+    ∙ done_same files_told lines_told sid cut.done before cut.middle (front_none cut.done (cut.torn ∷ cut.more) (subst (λ (ds : List Deed). keeps_none ds ≡ true) cut.parts none)) cut.first
+
+-- the fault of a greeting is one of sending
+nothing_there : (done : List Deed) (torn : Deed) (more : List Deed) → [] ≡ done ++ torn ∷ more → ⊥
+nothing_there [] torn more is = cc
+nothing_there (deed ∷ done) torn more is = cc
+
+one_fault : (phase : Phase) (frames : List Message) (done : List Deed) (torn : Deed) (more : List Deed) (why : Fault) → Go phase frames ∷ [] ≡ done ++ torn ∷ more → IsFaultOf torn why → IsFaultOfSending why
+one_fault phase frames [] torn more why parts cause =
+    let same : torn ≡ Go phase frames = cc in
+    subst (λ (deed : Deed). IsFaultOf deed why) same cause
+one_fault phase frames (deed ∷ done) torn more why parts cause =
+    let rest : [] ≡ done ++ torn ∷ more = cc in
+    absurd (nothing_there done torn more rest)
+
+call_fault : (desk : Desk) (now : ℕ) (chosen : Row) (waits : Option Waits) (done : List Deed) (torn : Deed) (more : List Deed) (why : Fault) → IsCalled waits → call desk now true chosen waits ≡ done ++ torn ∷ more → IsFaultOf torn why → IsFaultOfSending why
+call_fault desk now chosen None done torn more why known parts cause = absurd known
+call_fault desk now chosen (Some waits) done torn more why known parts cause = one_fault (Greet chosen.number) (hello (own_home desk.journal) desk.config.block) done torn more why parts cause
+
+pub chosen_fault : (desk : Desk) (now : ℕ) (chosen : Row) (done : List Deed) (torn : Deed) (more : List Deed) (why : Fault) → IsKnown desk chosen → row_chosen desk now true (Some chosen) ≡ done ++ torn ∷ more → IsFaultOf torn why → IsFaultOfSending why
+chosen_fault desk now chosen done torn more why known parts cause = call_fault desk now chosen (desk.config.partner chosen.snode) done torn more why known parts cause
+
+pub not_of_disk : (why : Fault) → IsFaultOfSending why → why ≡ fault.Disk → ⊥
+not_of_disk fault.Disk cause is = cause
+not_of_disk (fault.JournalFull len) cause is = cause
+not_of_disk fault.NoMemory cause is = cc
+not_of_disk fault.Files cause is = cause
+not_of_disk fault.Line cause is = cc
+
+pub kept_fault : (e : Entry) (placing : Option Entry) (why : Fault) → Some e ≡ placing → IsFaultOf (Keep e) why → IsFaultOfPlacing placing why
+kept_fault e placing fault.Disk is cause = tt
+kept_fault e placing (fault.JournalFull len) is cause = subst (λ (p : Option Entry). IsTooLong p len) is cause
+kept_fault e placing fault.NoMemory is cause = tt
+kept_fault e placing fault.Files is cause = absurd cause
+kept_fault e placing fault.Line is cause = absurd cause
+
+pub not_of_lines : (placing : Option Entry) (why : Fault) → IsFaultOfSending why → (why ≡ fault.Line → ⊥) → IsFaultOfPlacing placing why
+not_of_lines placing fault.Disk cause other = absurd cause
+not_of_lines placing (fault.JournalFull len) cause other = absurd cause
+not_of_lines placing fault.NoMemory cause other = tt
+not_of_lines placing fault.Files cause other = absurd cause
+not_of_lines placing fault.Line cause other = absurd (other refl)
+
 -- what was done, from lines that tell the same
 pub retold : (files_told lines_told : Type 0) (sid : ℕ) (deeds : List Deed) (entries : List Entry) (shelf : Shelf) (phase : Phase) (holdings : List Holding) (before then_told : Traffic) (after : Spot) → (lines_told → then_told ≡ before)
     → WereDone files_told lines_told sid deeds (spot entries shelf phase holdings then_told) after → WereDone files_told lines_told sid deeds (spot entries shelf phase holdings before) after
 retold files_told lines_told sid deeds entries shelf phase holdings before then_told after same done = record {
   node = λ node is. done.node node (record { journal = is.journal; shelf = is.shelf; phase = is.phase; holder = is.holder });
   traffic = λ told. done.traffic told ∙ ap (gave sid (sends deeds)) (same told);
+}
+
+pub recut : (files_told lines_told : Type 0) (sid : ℕ) (deeds : List Deed) (why : Fault) (entries : List Entry) (shelf : Shelf) (phase : Phase) (holdings : List Holding) (before then_told : Traffic) (after : Spot) → (lines_told → then_told ≡ before)
+    → WereCut files_told lines_told sid deeds why (spot entries shelf phase holdings then_told) after → WereCut files_told lines_told sid deeds why (spot entries shelf phase holdings before) after
+recut files_told lines_told sid deeds why entries shelf phase holdings before then_told after same cut = record {
+  done = cut.done;
+  torn = cut.torn;
+  more = cut.more;
+  parts = cut.parts;
+  middle = cut.middle;
+  first = retold files_told lines_told sid cut.done entries shelf phase holdings before then_told cut.middle same cut.first;
+  rest = cut.rest;
+  cause = cut.cause;
 }
 
 pub some_is : (one other : Row) → Some one ≡ Some other → one ≡ other

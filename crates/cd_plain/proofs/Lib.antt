@@ -1,5 +1,8 @@
 mod Coming
 mod Formed
 mod Greeting
+mod Opening
 mod Places
 mod Recorded
+mod Taken
+mod Turning

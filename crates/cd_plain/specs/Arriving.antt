@@ -1,14 +1,12 @@
 -- What comes in a session.
-use Rattle.std.specs.Prelude.{◌≡◌, ◌⊎◌, ℕ, List, [], ◌∷◌, ◌++◌, Bool, true, false, not, Option, Some, None, is_some}
+use Rattle.std.specs.Prelude.{◌≡◌, ◌⊎◌, ℕ, List, [], ◌∷◌, ◌++◌, Bool, true, false, not, ◌==◌, Option, Some, None, is_some}
 use Rattle.cd_outside.specs.Counts.{Rose}
 use Rattle.cd_outside.specs.Lines.{Traffic, LineCounts}
 use Rattle.cd_entries.specs.declared.entry.Entry.{Entry}
 use Rattle.cd_frames.specs.Message.{Message}
 use Rattle.cd_frames.specs.Reading.{Reading, front}
-use Rattle.cd_frames.specs.Stream.{Front, gives, refuses, waits}
+use Rattle.cd_frames.specs.Stream.{Front, refuses}
 use Rattle.cd_status.specs.Processes.{is_live}
-use Rattle.cd_moves.specs.Closing.{own_number}
-use Rattle.cd_moves.specs.declared.session.Phase.{Phase}
 use Rattle.cd_plain.specs.declared.arriving.Came.{Came}
 use Rattle.cd_plain.specs.declared.arriving.Came.TheVariants as came
 
@@ -38,7 +36,12 @@ CameSo came.Frame reader sid before now = is_some reader.given ≡ true
 CameSo came.Bad reader sid before now = IsRefused (front reader)
 CameSo came.End reader sid before now = Rose (before.ends sid) (now.ends sid) ⊎ Rose (before.faults sid) (now.faults sid)
 
--- bytes were taken, and nothing was given
-pub record Heard (before now : Traffic) : Type 0 where
+-- of no other session bytes were taken
+abbrev pub TookOfOne : ℕ → Traffic → Traffic → Type 0
+TookOfOne sid before now = (other : ℕ) → (sid == other) ≡ false → now.taken other ≡ before.taken other
+
+-- bytes were taken of one session, and nothing was given
+pub record Heard (sid : ℕ) (before now : Traffic) : Type 0 where
+  pub others : TookOfOne sid before now
   pub given : now.given ≡ before.given
   pub sends : now.sends ≡ before.sends

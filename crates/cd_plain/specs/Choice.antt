@@ -1,43 +1,122 @@
 -- A session is taken, or begun for a Process that is due.
-use Rattle.std.specs.Prelude.{◌≡◌, ◌⊎◌, ℕ, List, [], ◌∷◌, ◌++◌, true, false, Some}
-use Rattle.cd_moves.specs.declared.session.Phase.TheVariants.{Gone, Fresh}
-use Rattle.cd_node.specs.declared.session.Session.{Session}
-use Rattle.cd_types.specs.declared.rows.Row.{Row}
+use Rattle.std.specs.Prelude.{◌≡◌, ◌⊎◌, ◌<◌, ◌+◌, ◌^◌, ℕ, [], ◌∷◌, ◌++◌, length, true, false, Option, Some, None}
+use Rattle.cd_outside.specs.Counts.{Rose, next}
+use Rattle.cd_outside.specs.Lines.{LineCounts}
 use Rattle.cd_outside.specs.declared.sid.Sid.{Sid}
+use Rattle.cd_types.specs.declared.rows.Row.{Row}
+use Rattle.cd_entries.specs.Entry.{entry_bytes}
+use Rattle.cd_entries.specs.declared.entry.Entry.{Entry}
 use Rattle.cd_legal.specs.Steps.{Reading}
+use Rattle.cd_moves.specs.Node.{Desk}
 use Rattle.cd_moves.specs.Rows.{row_chosen}
 use Rattle.cd_moves.specs.declared.session.Phase.{Phase}
-use Rattle.cd_deeds.specs.Stands.{spot, WereDone}
+use Rattle.cd_moves.specs.declared.session.Phase.TheVariants.{Gone, Fresh}
+use Rattle.cd_deeds.specs.Stands.{Spot, WereDone, WereCut}
+use Rattle.cd_deeds.specs.declared.fault.Fault.{Fault}
+use Rattle.cd_deeds.specs.declared.fault.Fault.TheVariants as fault
 use Rattle.cd_parts.specs.Desk.{desk_of}
-use Rattle.cd_plain.specs.Chosen.{placed_in, IsPlaced}
-use Rattle.cd_plain.specs.NodeState.{NodeState}
-use Rattle.cd_plain.specs.Turned.{Told}
+use Rattle.cd_plain.specs.Chosen.{placed_in, IsKnown, IsPlaced}
+use Rattle.cd_plain.specs.NodeState.{NodeState, IsNewest, HasNewReader, KeptSessions}
+use Rattle.cd_plain.specs.Turned.{Told, spot_of}
 use Rattle.cd_plain.specs.declared.handled.Handled.{Handled}
 use Rattle.cd_plain.specs.declared.handled.Handled.TheVariants as handled
 
--- The newest session of the lines is the last of the node's, and fresh; or the lines had none, and nothing was done.
-abbrev pub Accepted : Handled → ℕ → List Session → List Session → Type 0
-Accepted answer last before after =
-    ((answer ≡ handled.Went) × (after ≡ before ++ (record { sid = record { number = last }; phase = Fresh }) ∷ []))
-    ⊎ ((answer ≡ handled.NoMore) × (after ≡ before))
-
--- A session with the partner of a Process began, by the rules.
-pub record WasConnected (files_told lines_told : Type 0) (read : Reading) (sid : Sid) (now : ℕ) (row : Row) (answer : Handled) (node after : NodeState) (before now_told : Told) : Type 0 where
+-- The newest session of the lines, which they made in this call, is the last of the node's, newer than each of them, and fresh.
+pub record TookSession (answer : Handled) (last_before last : ℕ) (before now : LineCounts) (node after : NodeState) : Type 0 where
   pub answered : answer ≡ handled.Went
-  pub phase : Phase
-  pub sessions : after.sessions ≡ node.sessions ++ (record { sid = sid; phase = phase }) ∷ []
-  pub done : WereDone files_told lines_told sid.number (row_chosen (desk_of read node.config node.registry.entries) now true (Some row))
-      (spot node.registry.entries before.shelf Gone node.holdings before.traffic) (spot after.registry.entries now_told.shelf phase after.holdings now_told.traffic)
+  pub made : last_before < last
+  pub newest : IsNewest last node.sessions
+  pub sessions : after.sessions ≡ node.sessions ++ (record { sid = record { number = last }; phase = Fresh }) ∷ []
+  pub readings : HasNewReader node.readings after.readings
+  pub nones : now.nones ≡ before.nones
 
--- The Process was placed by the rules, since its partner wasn't connected or can't be called.
-pub record WasPlaced (read : Reading) (now : ℕ) (row : Row) (node after : NodeState) : Type 0 where
-  pub sessions : after.sessions ≡ node.sessions
-  pub placed : IsPlaced read now (placed_in (row_chosen (desk_of read node.config node.registry.entries) now false (Some row))) node.registry.entries after.registry.entries
+-- the lines had none, as they counted, and nothing was done
+pub record HadNone (answer : Handled) (last_before last : ℕ) (before now : LineCounts) (node after : NodeState) : Type 0 where
+  pub answered : answer ≡ handled.NoMore
+  pub none : last ≡ last_before
+  pub counted : now.nones ≡ next before.nones
+  pub same : after ≡ node
 
-pub record BeganWith (files_told lines_told : Type 0) (read : Reading) (now : ℕ) (row : Row) (answer : Handled) (node after : NodeState) (before now_told : Told) : Type 0 where
-  pub sid : Sid
-  pub began : WasConnected files_told lines_told read sid now row answer node after before now_told
+abbrev pub Accepted : Handled → ℕ → ℕ → LineCounts → LineCounts → NodeState → NodeState → Type 0
+Accepted answer last_before last before now node after = TookSession answer last_before last before now node after ⊎ HadNone answer last_before last before now node after
 
--- what was done with the Process that was due
-abbrev pub WasChosen : Type 0 → Type 0 → Reading → ℕ → Row → Handled → NodeState → NodeState → Told → Told → Type 0
-WasChosen files_told lines_told read now row answer node after before now_told = BeganWith files_told lines_told read now row answer node after before now_told ⊎ WasPlaced read now row node after
+-- the faults of accepting
+abbrev pub IsFaultOfAccepting : Fault → Type 0
+IsFaultOfAccepting fault.Line = Unit {0}
+IsFaultOfAccepting fault.NoMemory = Unit {0}
+IsFaultOfAccepting _ = ⊥
+
+-- the faults of recording; the journal is full where the entry makes it longer than 2^30 bytes
+abbrev pub IsTooLong : Option Entry → ℕ → Type 0
+IsTooLong None len = ⊥
+IsTooLong (Some e) len = 2 ^ 30 < len + 5 + length (entry_bytes e)
+
+abbrev pub IsFaultOfPlacing : Option Entry → Fault → Type 0
+IsFaultOfPlacing placing fault.Disk = Unit {0}
+IsFaultOfPlacing placing (fault.JournalFull len) = IsTooLong placing len
+IsFaultOfPlacing placing fault.NoMemory = Unit {0}
+IsFaultOfPlacing placing _ = ⊥
+
+-- the placing of a Process whose partner wasn't connected, or can't be called, by the rules
+abbrev pub placing_of : Desk → ℕ → Row → Option Entry
+placing_of desk now row = placed_in (row_chosen desk now false (Some row))
+
+-- A Process that is due was chosen: whether files and lines tell, how the node reads texts, the moment, the Process's row, what was
+-- answered, and the node and what its devices tell, before and after.
+module _ (files_told lines_told : Type 0) (read : Reading) (now : ℕ) (row : Row) (answer : Handled) (node after : NodeState) (before now_told : Told) where
+  -- it was placed by the rules, where that may be recorded
+  abbrev pub WasPlaced : Type 0
+  WasPlaced = IsPlaced read now (placing_of (desk_of read node.config node.registry.entries) now row) node.registry.entries after.registry.entries
+
+  -- The node can call its partner, and a session with it began, by the rules.
+  pub record WasConnected (sid : Sid) : Type 0 where
+    pub answered : answer ≡ handled.Went
+    pub known : IsKnown (desk_of read node.config node.registry.entries) row
+    pub newest : IsNewest sid.number node.sessions
+    pub phase : Phase
+    pub sessions : after.sessions ≡ node.sessions ++ (record { sid = sid; phase = phase }) ∷ []
+    pub readings : HasNewReader node.readings after.readings
+    pub done : WereDone files_told lines_told sid.number (row_chosen (desk_of read node.config node.registry.entries) now true (Some row)) (spot_of node Gone before) (spot_of after phase now_told)
+
+  -- So it was, but the session failed, and only a part of what the rules say was given to it. It is lost, and the Process is placed by
+  -- the rules, as where its partner isn't connected.
+  pub record WasLost (sid : Sid) : Type 0 where
+    pub answered : answer ≡ handled.Lost sid
+    pub known : IsKnown (desk_of read node.config node.registry.entries) row
+    pub newest : IsNewest sid.number node.sessions
+    pub sessions : after.sessions ≡ node.sessions ++ (record { sid = sid; phase = Gone }) ∷ []
+    pub readings : HasNewReader node.readings after.readings
+    pub cause : Rose (before.counts.faults sid.number) (now_told.counts.faults sid.number)
+    pub at : Spot
+    pub cut : WereCut files_told lines_told sid.number (row_chosen (desk_of read node.config node.registry.entries) now true (Some row)) fault.Line (spot_of node Gone before) at
+    pub shelf : files_told → now_told.shelf ≡ at.shelf
+    pub traffic : lines_told → now_told.traffic ≡ at.traffic
+    pub holdings : after.holdings ≡ at.holdings
+    pub placed : WasPlaced
+
+  -- the session is one that the lines made then
+  pub record Began : Type 0 where
+    pub sid : Sid
+    pub began : WasConnected sid ⊎ WasLost sid
+
+  -- The node can't call its partner: the Process is held, and nothing else is done.
+  pub record WasHeld : Type 0 where
+    pub answered : answer ≡ handled.Went
+    pub unknown : (desk_of read node.config node.registry.entries).config.partner row.snode ≡ None
+    pub placed : WasPlaced
+    pub kept : KeptSessions node after
+    pub untouched : now_told ≡ before
+
+  -- Its partner wasn't connected, as the lines counted: the Process is placed anew, and nothing else is done.
+  pub record WasNotConnected : Type 0 where
+    pub answered : answer ≡ handled.NotConnected row.number
+    pub known : IsKnown (desk_of read node.config node.registry.entries) row
+    pub cause : Rose before.counts.connects now_told.counts.connects
+    pub placed : WasPlaced
+    pub kept : KeptSessions node after
+    pub shelf : now_told.shelf ≡ before.shelf
+    pub files : now_told.files ≡ before.files
+    pub traffic : lines_told → now_told.traffic ≡ before.traffic
+
+  abbrev pub WasChosen : Type 0
+  WasChosen = Began ⊎ (WasHeld ⊎ WasNotConnected)

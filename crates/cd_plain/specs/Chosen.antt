@@ -6,7 +6,7 @@ use Rattle.cd_entries.specs.declared.entry.Entry.TheVariants as entry
 use Rattle.cd_status.specs.Queue.{Waits}
 use Rattle.cd_legal.specs.Steps.{Reading}
 use Rattle.cd_moves.specs.Closing.{own_number}
-use Rattle.cd_moves.specs.Node.{Desk, Deed, Keep, Touch, AskSize, AskBytes, Begin, Go}
+use Rattle.cd_moves.specs.Node.{Desk, Deed, Keep}
 use Rattle.cd_moves.specs.Rows.{may_record}
 use Rattle.cd_node.specs.declared.session.Session.{Session}
 

@@ -36,7 +36,7 @@ fn take_bytes<L: Lines>(reader: &mut Reader, lines: &mut L, sid: Sid) -> usize
     ensures run { L.told → (given : List Message) → Run ((L.traffic lines.old).taken sid.number) given reader.old → Run ((L.traffic lines.new).taken sid.number) given reader.new }
     ensures more { length reader.new.rest ≡ length reader.old.rest + result }
     ensures none { result ≡ 0 → Rose ((L.counts lines.old).ends sid.number) ((L.counts lines.new).ends sid.number) ⊎ Rose ((L.counts lines.old).faults sid.number) ((L.counts lines.new).faults sid.number) }
-    ensures heard { L.told → Heard (L.traffic lines.old) (L.traffic lines.new) }
+    ensures heard { L.told → Heard sid.number (L.traffic lines.old) (L.traffic lines.new) }
     ensures last { L.last lines.new ≡ L.last lines.old }
     ensures later { NeverFell (L.counts lines.old) (L.counts lines.new) }
 {
@@ -57,7 +57,7 @@ pub fn next_frame<L: Lines>(reader: &mut Reader, lines: &mut L, sid: Sid) -> Cam
     requires to { sid.number ≤ L.last lines.old }
     ensures run { L.told → (given : List Message) → Run ((L.traffic lines.old).taken sid.number) given reader.old → Run ((L.traffic lines.new).taken sid.number) (and_one given (came_frame result reader.new.given)) reader.new }
     ensures why { CameSo result reader.new sid.number (L.counts lines.old) (L.counts lines.new) }
-    ensures heard { L.told → Heard (L.traffic lines.old) (L.traffic lines.new) }
+    ensures heard { L.told → Heard sid.number (L.traffic lines.old) (L.traffic lines.new) }
     ensures last { L.last lines.new ≡ L.last lines.old }
     ensures later { NeverFell (L.counts lines.old) (L.counts lines.new) }
 {

@@ -1,19 +1,20 @@
 //! The next Process is chosen.
-ghost use Rattle.std.specs.Prelude.{◌≡◌, ◌≢◌, ◌≤◌, map, option_map, true, false, Some, Err, OnOk, IfOk};
+ghost use Rattle.std.specs.Prelude.{◌≡◌, ◌≢◌, ◌≤◌, ℕ, map, option_map, true, Some, Err, OnOk, OnErr, IfOk, IfErr};
 ghost use Rattle.cd_outside.specs.Counts.{Rose};
 ghost use Rattle.cd_outside.specs.Disk.{last_of};
 ghost use Rattle.cd_outside.specs.Files.{files_last_of};
 ghost use Rattle.cd_outside.specs.Lines.{NeverFell};
 ghost use Rattle.cd_frames.specs.Frame.{is_block};
+ghost use Rattle.cd_journal.specs.Journal.{length_of};
 ghost use Rattle.cd_status.specs.Processes.{latest};
 ghost use Rattle.cd_legal.specs.Legal.{is_legal};
 ghost use Rattle.cd_entries.specs.declared.entry.Entry.TheVariants.{Placed};
 ghost use Rattle.cd_moves.specs.Rows.{row_chosen};
 ghost use Rattle.cd_moves.specs.Seen.{seen_deed};
-ghost use Rattle.cd_moves.specs.declared.session.Phase.TheVariants.{Gone};
 ghost use Rattle.cd_deeds.specs.Registry.{IsRegistry};
-ghost use Rattle.cd_deeds.specs.Stands.{spot, WereDone};
+ghost use Rattle.cd_deeds.specs.Stands.{spot, WereDone, WereCut, IsFaultOfSending};
 ghost use Rattle.cd_parts.specs.Desk.{desk_of};
+ghost use Rattle.cd_plain.specs.Choice.{placing_of, IsFaultOfPlacing};
 ghost use Rattle.cd_plain.specs.Chosen.{busy_in, placed_in, IsKnown, IsPlaced};
 
 use crate::recording::try_record;
@@ -79,12 +80,15 @@ pub(crate) fn place<T: Texts, D: Disk>(
     requires sound { registry.old.journal.sound ≡ true }
     requires registry { D.told → IsRegistry registry.old (D.state disk.old) }
     requires order { D.told → last_of (D.state disk.old).calls ≤ beat.old }
-    ensures placed { OnOk result (IsPlaced T.read now (placed_in (row_chosen (desk_of T.read config.now registry.old.entries) now false (Some chosen.now))) registry.old.entries registry.new.entries) }
+    ensures placed { OnOk result (IsPlaced T.read now (placing_of (desk_of T.read config.now registry.old.entries) now chosen.now) registry.old.entries registry.new.entries) }
+    ensures err { OnErr result (registry.new.entries ≡ registry.old.entries) }
     ensures legal { is_legal T.read registry.new.entries ≡ true }
     ensures on_time { latest registry.new.entries ≤ now }
     ensures registry { D.told → result ≢ Err Fault.Disk → IsRegistry registry.new (D.state disk.new) }
     ensures header { registry.new.journal.has_header ≡ true }
     ensures sound { result ≢ Err Fault.Disk → registry.new.journal.sound ≡ true }
+    ensures fault { IfErr result (λ fault. IsFaultOfPlacing (placing_of (desk_of T.read config.now registry.old.entries) now chosen.now) fault) }
+    ensures full { (len : ℕ) → result ≡ Err (Fault.JournalFull len) → length_of registry.new.journal ≡ len }
     ensures cause { result ≡ Err Fault.Disk → Rose (D.faults disk.old) (D.faults disk.new) }
     ensures order { D.told → last_of (D.state disk.new).calls ≤ beat.new }
     ensures beat { beat.old ≤ beat.new }
@@ -109,11 +113,12 @@ pub(crate) fn place<T: Texts, D: Disk>(
     }
 }
 
-/// A session with the partner of a Process begins; its phase is answered.
+/// A session with the partner of a Process begins, in the phase that is lent.
 pub(crate) fn greet<T: Texts, D: Disk, F: Files, L: Lines>(
     alloc: Global,
     config: &Config,
     registry: &mut Registry<T>,
+    phase: &mut Phase,
     holders: &mut Holders,
     sid: Sid,
     now: Moment,
@@ -122,7 +127,7 @@ pub(crate) fn greet<T: Texts, D: Disk, F: Files, L: Lines>(
     files: &mut F,
     lines: &mut L,
     beat: &mut Beat,
-) -> Result<Phase, Fault>
+) -> Result<(), Fault>
     requires block { is_block config.now.block ≡ true }
     requires legal { is_legal T.read registry.old.entries ≡ true }
     requires on_time { latest registry.old.entries ≤ now }
@@ -134,14 +139,26 @@ pub(crate) fn greet<T: Texts, D: Disk, F: Files, L: Lines>(
     requires from { 1 ≤ sid.number }
     requires to { sid.number ≤ L.last lines.old }
     requires known { IsKnown (desk_of T.read config.now registry.old.entries) chosen.now }
-    ensures done { IfOk result (λ phase. WereDone F.told L.told sid.number (row_chosen (desk_of T.read config.now registry.old.entries) now true (Some chosen.now))
-        (spot registry.old.entries (F.state files.old).shelf Gone holders.old (L.traffic lines.old))
-        (spot registry.new.entries (F.state files.new).shelf phase holders.new (L.traffic lines.new))) }
-    ensures same { OnOk result (registry.new.entries ≡ registry.old.entries) }
-    ensures registry { D.told → result ≢ Err Fault.Disk → IsRegistry registry.new (D.state disk.new) }
+
+    // What is done.
+    ensures done { OnOk result (WereDone F.told L.told sid.number (row_chosen (desk_of T.read config.now registry.old.entries) now true (Some chosen.now))
+        (spot registry.old.entries (F.state files.old).shelf phase.old holders.old (L.traffic lines.old))
+        (spot registry.new.entries (F.state files.new).shelf phase.new holders.new (L.traffic lines.new))) }
+    ensures cut { result ≡ Err Fault.Line → WereCut F.told L.told sid.number (row_chosen (desk_of T.read config.now registry.old.entries) now true (Some chosen.now)) Fault.Line
+        (spot registry.old.entries (F.state files.old).shelf phase.old holders.old (L.traffic lines.old))
+        (spot registry.new.entries (F.state files.new).shelf phase.new holders.new (L.traffic lines.new)) }
+
+    // What stands then.
+    ensures same { registry.new.entries ≡ registry.old.entries }
+    ensures taken { L.told → (L.traffic lines.new).taken ≡ (L.traffic lines.old).taken }
+    ensures registry { D.told → IsRegistry registry.new (D.state disk.new) }
     ensures header { registry.new.journal.has_header ≡ true }
-    ensures sound { result ≢ Err Fault.Disk → registry.new.journal.sound ≡ true }
-    ensures disk { result ≡ Err Fault.Disk → Rose (D.faults disk.old) (D.faults disk.new) }
+    ensures sound { registry.new.journal.sound ≡ true }
+
+    // Why it fails.
+    ensures fault { IfErr result IsFaultOfSending }
+    ensures line { result ≡ Err Fault.Line → Rose ((L.counts lines.old).faults sid.number) ((L.counts lines.new).faults sid.number) }
+
     ensures order { D.told → last_of (D.state disk.new).calls ≤ beat.new }
     ensures files_order { F.told → files_last_of (F.state files.new).calls ≤ beat.new }
     ensures beat { beat.old ≤ beat.new }
@@ -155,15 +172,12 @@ pub(crate) fn greet<T: Texts, D: Disk, F: Files, L: Lines>(
         config,
     };
     match row_chosen(alloc, &desk, now, true, &Some(*chosen)) {
-        Ok(part) => {
-            let mut phase = Phase::Gone;
-            match perform(
-                alloc, registry, &mut phase, holders, sid, disk, files, lines, part.deeds, beat,
-            ) {
-                Ok(()) => Ok(phase),
-                Err(fault) => Err(fault),
-            }
-        }
+        Ok(part) => match perform(
+            alloc, registry, phase, holders, sid, disk, files, lines, part.deeds, beat,
+        ) {
+            Ok(()) => Ok(()),
+            Err(fault) => Err(fault),
+        },
         Err(_) => Err(Fault::NoMemory),
     }
 }

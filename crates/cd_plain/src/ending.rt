@@ -5,6 +5,6 @@ pub enum Ending {
     Went,
     /// The session is lost.
     Lost,
-    /// The files failed, and the partner was told of trouble.
+    /// The files failed, and the rules say what is done then: the partner is told of trouble where a step is under way.
     Troubled,
 }

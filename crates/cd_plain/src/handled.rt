@@ -4,7 +4,7 @@ use cd_types::ProcNo;
 /// What became of a happening.
 #[derive(Clone, Copy, Debug, PartialEq, Eq)]
 pub enum Handled {
-    /// All that the rules say was done.
+    /// All that the rules say was done. They may close the session.
     Went,
     /// No Process is due.
     Idle,
@@ -12,8 +12,9 @@ pub enum Handled {
     NoMore,
     /// The partner of this Process couldn't be connected.
     NotConnected(ProcNo),
-    /// The session ended, or failed, or gave what is no frame, or was left.
+    /// The session ended, or failed, or gave what is no frame; or its Process isn't live any more; or no open session has this number.
     Lost(Sid),
-    /// The files failed: the partner was told of trouble, and the session is closed.
+    /// The files failed: the session is closed, after its partner was told of trouble where a step was under way and the session took
+    /// that.
     Aborted(Sid),
 }

@@ -1,15 +1,17 @@
 //! An entry is recorded.
-ghost use Rattle.std.specs.Prelude.{◌≡◌, ◌≢◌, ◌≤◌, ◌∷◌, ℕ, option_map, true, false, Ok, Err, OnErr};
+ghost use Rattle.std.specs.Prelude.{◌≡◌, ◌≢◌, ◌≤◌, ◌<◌, ◌+◌, ◌^◌, ◌∷◌, ℕ, length, option_map, true, false, Ok, Err, OnErr, IfErr};
 ghost use Rattle.cd_outside.specs.Counts.{Rose};
 ghost use Rattle.cd_outside.specs.Disk.{last_of, LeftAt};
 ghost use Rattle.cd_outside.specs.Moments.{Moments};
 ghost use Rattle.cd_journal.specs.Journal.{length_of};
+ghost use Rattle.cd_entries.specs.Entry.{entry_bytes};
 ghost use Rattle.cd_status.specs.Processes.{latest};
 ghost use Rattle.cd_legal.specs.Legal.{is_legal};
+ghost use Rattle.cd_moves.specs.Node.{Keep};
 ghost use Rattle.cd_moves.specs.Rows.{may_record};
 ghost use Rattle.cd_book.specs.Book.{IsRead};
 ghost use Rattle.cd_deeds.specs.Registry.{IsRegistry, IsWithOrWithout};
-ghost use Rattle.cd_deeds.specs.Stands.{HasFormedOrigin};
+ghost use Rattle.cd_deeds.specs.Stands.{HasFormedOrigin, IsFaultOf};
 
 use cd_ast::Process;
 use cd_book::Texts;
@@ -22,6 +24,9 @@ use cd_types::Moment;
 
 /// Records an entry where it may be recorded now, and answers whether that was so. With a submission comes the Process that its text
 /// reads as.
+///
+/// `JournalFull` and `NoMemory` come before any call of the disk, and nothing is changed then. After `Disk` the journal isn't sound, and
+/// is opened again.
 pub fn try_record<T: Texts, D: Disk>(
     registry: &mut Registry<T>,
     config: &Config,
@@ -50,7 +55,10 @@ pub fn try_record<T: Texts, D: Disk>(
     ensures registry { D.told → result ≢ Err Fault.Disk → IsRegistry registry.new (D.state disk.new) }
     ensures header { registry.new.journal.has_header ≡ true }
     ensures sound { result ≢ Err Fault.Disk → registry.new.journal.sound ≡ true }
-    ensures full { (len : ℕ) → result ≡ Err (Fault.JournalFull len) → length_of registry.new.journal ≡ len }
+    ensures full { (len : ℕ) → result ≡ Err (Fault.JournalFull len) → (len ≡ length_of registry.old.journal) × (2 ^ 30 < len + 5 + length (entry_bytes entry)) }
+    ensures full_still { (len : ℕ) → result ≡ Err (Fault.JournalFull len) → length_of registry.new.journal ≡ len }
+    ensures fault { IfErr result (λ fault. IsFaultOf (Keep entry) fault) }
+    ensures untouched { OnErr result (result ≢ Err Fault.Disk → (disk.new ≡ disk.old) × (beat.new ≡ beat.old)) }
     ensures cause { result ≡ Err Fault.Disk → Rose (D.faults disk.old) (D.faults disk.new) }
     ensures order { D.told → last_of (D.state disk.new).calls ≤ beat.new }
     ensures beat { beat.old ≤ beat.new }

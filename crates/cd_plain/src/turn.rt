@@ -8,10 +8,11 @@ ghost use Rattle.cd_journal.specs.Journal.{length_of};
 ghost use Rattle.cd_status.specs.Processes.{latest};
 ghost use Rattle.cd_legal.specs.Legal.{is_legal};
 ghost use Rattle.cd_legal.specs.Promises.{HavePriorities};
+ghost use Rattle.cd_moves.specs.Closing.{own_number};
 ghost use Rattle.cd_deeds.specs.Registry.{IsRegistry};
 ghost use Rattle.cd_deeds.specs.Stands.{spot};
 ghost use Rattle.cd_plain.specs.Arriving.{is_over_for};
-ghost use Rattle.cd_plain.specs.Turn.{TookFrame, TookEnd, FailedFrame, FailedEnd};
+ghost use Rattle.cd_plain.specs.Turn.{MayBeLost, TookTurn, TurnFailed};
 
 use crate::arriving::{frame_in, next_frame};
 use crate::ending::Ending;
@@ -37,7 +38,8 @@ fn is_over_for<T: Texts>(book: &Book<T>, number: Option<ProcNo>) -> bool
 }
 
 /// What comes next in a session is handled: its next frame, or its end. No byte is taken of a session whose Process isn't live any
-/// more. The session's phase is lent, and the other sessions are handed in beside it.
+/// more. The session's phase is lent, and the other sessions are handed in beside it. `Lost` comes only where the Process isn't live any
+/// more, where what came is no frame, or where the session ended or failed; `Troubled` only where the count of the files' faults rose.
 pub fn take_turn<T: Texts, R: Rules<T>, D: Disk, F: Files, L: Lines>(
     alloc: Global,
     rules: &R,
@@ -66,14 +68,14 @@ pub fn take_turn<T: Texts, R: Rules<T>, D: Disk, F: Files, L: Lines>(
     requires to { sid.number ≤ L.last lines.old }
 
     // What is done.
-    ensures handled { IfOk result (λ ending. TookFrame F.told L.told (R.setting rules.now) T.read sid.number now others.now ending (L.traffic lines.old) reader.old reader.new (λ traffic. spot registry.old.entries (F.state files.old).shelf phase.old holders.old traffic)
-        (spot registry.new.entries (F.state files.new).shelf phase.new holders.new (L.traffic lines.new))
-        ⊎ TookEnd F.told L.told (R.setting rules.now) T.read sid.number now others.now ending registry.old.entries phase.old (L.counts lines.old) (L.counts lines.new) (L.traffic lines.old) reader.new (λ traffic. spot registry.old.entries (F.state files.old).shelf phase.old holders.old traffic)
+    ensures handled { IfOk result (λ ending. TookTurn F.told L.told (R.setting rules.now) T.read sid.number now others.now ending (L.counts lines.old) (L.counts lines.new) reader.old reader.new
+        (spot registry.old.entries (F.state files.old).shelf phase.old holders.old (L.traffic lines.old))
         (spot registry.new.entries (F.state files.new).shelf phase.new holders.new (L.traffic lines.new))) }
-    ensures failed { IfErr result (λ fault. FailedFrame F.told L.told (R.setting rules.now) T.read sid.number now others.now fault (L.traffic lines.old) reader.old reader.new (λ traffic. spot registry.old.entries (F.state files.old).shelf phase.old holders.old traffic)
-        (spot registry.new.entries (F.state files.new).shelf phase.new holders.new (L.traffic lines.new))
-        ⊎ FailedEnd F.told L.told (R.setting rules.now) T.read sid.number now others.now fault (L.traffic lines.old) (λ traffic. spot registry.old.entries (F.state files.old).shelf phase.old holders.old traffic)
+    ensures failed { IfErr result (λ fault. TurnFailed F.told L.told (R.setting rules.now) T.read sid.number now others.now fault (L.counts lines.old) (L.counts lines.new) reader.old reader.new
+        (spot registry.old.entries (F.state files.old).shelf phase.old holders.old (L.traffic lines.old))
         (spot registry.new.entries (F.state files.new).shelf phase.new holders.new (L.traffic lines.new))) }
+
+    ensures unheard { L.told → is_over_for registry.old.entries (own_number phase.old) ≡ true → (L.traffic lines.new).taken ≡ (L.traffic lines.old).taken }
 
     // What stands then.
     ensures legal { is_legal T.read registry.new.entries ≡ true }
@@ -88,6 +90,7 @@ pub fn take_turn<T: Texts, R: Rules<T>, D: Disk, F: Files, L: Lines>(
     ensures files { result ≡ Err Fault.Files → Rose (F.faults files.old) (F.faults files.new) }
     ensures line { result ≡ Err Fault.Line → Rose ((L.counts lines.old).faults sid.number) ((L.counts lines.new).faults sid.number) }
     ensures troubled { result ≡ Ok Ending.Troubled → Rose (F.faults files.old) (F.faults files.new) }
+    ensures lost { result ≡ Ok Ending.Lost → MayBeLost registry.old.entries phase.old reader.new sid.number (L.counts lines.old) (L.counts lines.new) }
 
     ensures order { D.told → last_of (D.state disk.new).calls ≤ beat.new }
     ensures files_order { F.told → files_last_of (F.state files.new).calls ≤ beat.new }

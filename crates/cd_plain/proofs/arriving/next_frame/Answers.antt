@@ -39,7 +39,7 @@ loop-piece-preserved g c =
           (stepped_none c.loop-piece.reader (front c.loop-piece.reader) refl says ((g.L.Lines.traffic c.loop-piece.lines).taken c.args.sid.number) given (i.run told given run)));
       more = omega (arith, i.more, e.more, longer, c.if-take_bytes-eq0.false);
       most = omega (arith, i.more, short);
-      heard = λ told. heard_then _ _ _ (i.heard told) (e.heard told);
+      heard = λ told. heard_then _ _ _ _ (i.heard told) (e.heard told);
       last = e.last ∙ i.last;
       later = fell_then _ _ _ i.later e.later;
     }

@@ -10,7 +10,7 @@ invariant-loop-piece g l = record {
   run : g.L.Lines.told → (given : List Message) → Run ((g.L.Lines.traffic l.fn.lines).taken l.fn.sid.number) given l.fn.reader → Run ((g.L.Lines.traffic l.lines).taken l.fn.sid.number) given l.reader;
   more : l._piece ≤ length l.reader.rest;
   most : l._piece ≤ 131076;
-  heard : g.L.Lines.told → Heard (g.L.Lines.traffic l.fn.lines) (g.L.Lines.traffic l.lines);
+  heard : g.L.Lines.told → Heard l.fn.sid.number (g.L.Lines.traffic l.fn.lines) (g.L.Lines.traffic l.lines);
   last : g.L.Lines.last l.lines ≡ g.L.Lines.last l.fn.lines;
   later : NeverFell (g.L.Lines.counts l.fn.lines) (g.L.Lines.counts l.lines);
 }

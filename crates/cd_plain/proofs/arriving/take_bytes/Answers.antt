@@ -1,4 +1,5 @@
-use Rattle.cd_plain.proofs.Coming.{took_more, took_none}
+use Rattle.std.specs.Prelude.{take}
+use Rattle.cd_plain.proofs.Coming.{took_more, took_none, took_heard, none_heard}
 use Rattle.cd_plain.proofs.arriving.take_bytes.Goals as goal
 
 pub returns-in-Ok-clause-run : goal.returns-in-Ok-clause-run
@@ -9,3 +10,9 @@ returns-in-Ok-clause-run g c = λ told given run.
 pub returns-in-Err-clause-run : goal.returns-in-Err-clause-run
 returns-in-Err-clause-run g c = λ told given run.
     took_none c.args.sid.number given c.args.reader.now c.room-room.result.now c.receive.new.into (g.L.Lines.traffic c.args.lines.now) (g.L.Lines.traffic c.receive.new.self) run (c.in-Err.ensures.none told)
+
+pub returns-in-Ok-clause-heard : goal.returns-in-Ok-clause-heard
+returns-in-Ok-clause-heard g c = λ told. took_heard c.args.sid.number (take c.in-Ok.n c.receive.new.into) (g.L.Lines.traffic c.args.lines.now) (g.L.Lines.traffic c.receive.new.self) (c.in-Ok.ensures.taken told)
+
+pub returns-in-Err-clause-heard : goal.returns-in-Err-clause-heard
+returns-in-Err-clause-heard g c = λ told. none_heard c.args.sid.number (g.L.Lines.traffic c.args.lines.now) (g.L.Lines.traffic c.receive.new.self) (c.in-Err.ensures.none told)

@@ -1,0 +1,151 @@
+use Rattle.std.proofs.Common.{◌≡◌, inl, ℕ, ◌≤◌, List, Some, Err, refl, sym, ap, subst, ◌∙◌, arith}
+use Rattle.cd_outside.specs.Lines.{Traffic}
+use Rattle.cd_moves.specs.Rows.{row_end}
+use Rattle.cd_moves.specs.declared.session.Phase.{Phase}
+use Rattle.cd_deeds.specs.Stands.{spot}
+use Rattle.cd_deeds.specs.declared.fault.Fault.{Fault}
+use Rattle.cd_deeds.specs.declared.fault.Fault.TheVariants as fault
+use Rattle.cd_node.specs.declared.session.Session.{Session}
+use Rattle.cd_plain.specs.Handling.{DidEnd, EndStopped}
+use Rattle.cd_plain.specs.NodeState.{NodeState, HasSessions, IsReady}
+use Rattle.cd_plain.specs.Setting.{setting_of}
+use Rattle.cd_plain.specs.Turned.{place_of, told, WasLeft, FailedLeaving}
+use Rattle.cd_plain.specs.declared.handled.Handled.TheVariants as handled
+use Rattle.cd_plain.proofs.Places.{found, rising_at}
+use Rattle.cd_plain.proofs.Taken.{ended_taken, ended_then}
+use Rattle.cd_plain.proofs.Turning.{swapped_back, sessions_left}
+use Rattle.cd_plain.proofs.node.Node.leave.Goals as goal
+
+pub on_end-ending-requires-clause-from : goal.on_end-ending-requires-clause-from
+on_end-ending-requires-clause-from g c =
+    let ready = subst (λ (n : NodeState). IsReady g.D.Disk.told g.F.Files.told g.L.Lines.told g.T.Texts.read n (g.D.Disk.state c.args.disk.now) (g.F.Files.state c.args.files.now) (g.L.Lines.traffic c.args.lines.now) c.args.beat.now (g.L.Lines.last c.args.lines.now) c.args.now) (sym c.self.view_is) c.requires.ready in
+    let first = subst (λ (xs : List Session). place_of c.args.sid.number xs ≡ Some c.in-Some.at) c.deref.ensures.value (sym c.in-Some.ensures) in
+    let one = found c.self.inside.sessions.items c.in-Some.at c.args.sid.number first in
+    let within = rising_at 0 (g.L.Lines.last c.args.lines.now) c.self.inside.sessions.items c.in-Some.at one.session ready.sessions.sids one.is in
+    subst (λ (n : ℕ). 1 ≤ n) one.number_is (omega (arith, within.0))
+
+pub on_end-ending-requires-clause-to : goal.on_end-ending-requires-clause-to
+on_end-ending-requires-clause-to g c =
+    let ready = subst (λ (n : NodeState). IsReady g.D.Disk.told g.F.Files.told g.L.Lines.told g.T.Texts.read n (g.D.Disk.state c.args.disk.now) (g.F.Files.state c.args.files.now) (g.L.Lines.traffic c.args.lines.now) c.args.beat.now (g.L.Lines.last c.args.lines.now) c.args.now) (sym c.self.view_is) c.requires.ready in
+    let first = subst (λ (xs : List Session). place_of c.args.sid.number xs ≡ Some c.in-Some.at) c.deref.ensures.value (sym c.in-Some.ensures) in
+    let one = found c.self.inside.sessions.items c.in-Some.at c.args.sid.number first in
+    let within = rising_at 0 (g.L.Lines.last c.args.lines.now) c.self.inside.sessions.items c.in-Some.at one.session ready.sessions.sids one.is in
+    subst (λ (n : ℕ). n ≤ g.L.Lines.last c.args.lines.now) one.number_is within.1
+
+pub close_gone-requires-clause-from : goal.close_gone-requires-clause-from
+close_gone-requires-clause-from g c =
+    let ready = subst (λ (n : NodeState). IsReady g.D.Disk.told g.F.Files.told g.L.Lines.told g.T.Texts.read n (g.D.Disk.state c.args.disk.now) (g.F.Files.state c.args.files.now) (g.L.Lines.traffic c.args.lines.now) c.args.beat.now (g.L.Lines.last c.args.lines.now) c.args.now) (sym c.self.view_is) c.requires.ready in
+    let first = subst (λ (xs : List Session). place_of c.args.sid.number xs ≡ Some c.in-Some.at) c.deref.ensures.value (sym c.in-Some.ensures) in
+    let one = found c.self.inside.sessions.items c.in-Some.at c.args.sid.number first in
+    let within = rising_at 0 (g.L.Lines.last c.args.lines.now) c.self.inside.sessions.items c.in-Some.at one.session ready.sessions.sids one.is in
+    subst (λ (n : ℕ). 1 ≤ n) one.number_is (omega (arith, within.0))
+
+pub close_gone-requires-clause-to : goal.close_gone-requires-clause-to
+close_gone-requires-clause-to g c =
+    let ready = subst (λ (n : NodeState). IsReady g.D.Disk.told g.F.Files.told g.L.Lines.told g.T.Texts.read n (g.D.Disk.state c.args.disk.now) (g.F.Files.state c.args.files.now) (g.L.Lines.traffic c.args.lines.now) c.args.beat.now (g.L.Lines.last c.args.lines.now) c.args.now) (sym c.self.view_is) c.requires.ready in
+    let first = subst (λ (xs : List Session). place_of c.args.sid.number xs ≡ Some c.in-Some.at) c.deref.ensures.value (sym c.in-Some.ensures) in
+    let one = found c.self.inside.sessions.items c.in-Some.at c.args.sid.number first in
+    let within = rising_at 0 (g.L.Lines.last c.args.lines.now) c.self.inside.sessions.items c.in-Some.at one.session ready.sessions.sids one.is in
+    subst (λ (n : ℕ). c.args.sid.number ≤ n) (sym c.on_end-ending.ensures.last) (subst (λ (n : ℕ). n ≤ g.L.Lines.last c.args.lines.now) one.number_is within.1)
+
+pub returns-in-Ok-clause-left : goal.returns-in-Ok-clause-left
+returns-in-Ok-clause-left g c =
+    let xs : List Session = c.self.inside.sessions.items in
+    let at : ℕ = c.in-Some.at in
+    let first = subst (λ (l : List Session). place_of c.args.sid.number l ≡ Some at) c.deref.ensures.value (sym c.in-Some.ensures) in
+    let one = found xs at c.args.sid.number first in
+    let s : Session = one.session in
+    let swapped = c.swap_phase-phase.ensures.swapped s one.is in
+    let second = swapped_back xs c.swap_phase-phase.new.sessions.items c.swap_phase.new.sessions.items at s c.swap_phase.result c.on_end-ending.new.phase one.is swapped.1 c.swap_phase.ensures.swapped in
+    let node : NodeState = record { registry = c.self.inside.registry; config = c.self.inside.config; sessions = xs; readings = c.self.inside.readers.items; holdings = c.self.inside.holders } in
+    let start = told (g.F.Files.state c.args.files.now).shelf (g.F.Files.faults c.args.files.now) (g.L.Lines.traffic c.args.lines.now) (g.L.Lines.counts c.args.lines.now) in
+    let after : NodeState = record { registry = c.on_end-ending.new.registry; config = c.self.inside.config; sessions = c.swap_phase.new.sessions.items; readings = c.self.inside.readers.items; holdings = c.on_end-ending.new.holders } in
+    let end = told (g.F.Files.state c.on_end-ending.new.files).shelf (g.F.Files.faults c.on_end-ending.new.files) (g.L.Lines.traffic c.close_gone.new.lines) (g.L.Lines.counts c.close_gone.new.lines) in
+    let last = spot c.on_end-ending.new.registry.entries (g.F.Files.state c.on_end-ending.new.files).shelf c.on_end-ending.new.phase c.on_end-ending.new.holders (g.L.Lines.traffic c.on_end-ending.new.lines) in
+    inl (subst (λ (n : NodeState). WasLeft g.F.Files.told g.L.Lines.told g.T.Texts.read c.args.now c.args.sid (handled.Lost c.args.sid) n after start end) c.self.view_is (record {
+      at = at;
+      session = s;
+      phase = c.on_end-ending.new.phase;
+      first = first;
+      stands = one.is;
+      sessions = second;
+      readings = refl;
+      answered = refl;
+      ended = ended_then g.F.Files.told g.L.Lines.told (setting_of c.self.inside.config) g.T.Texts.read c.args.sid.number c.args.now row_end
+          (spot c.self.inside.registry.entries (g.F.Files.state c.args.files.now).shelf s.phase c.self.inside.holders (g.L.Lines.traffic c.args.lines.now)) last (g.L.Lines.traffic c.close_gone.new.lines) c.close_gone.ensures.same
+          (subst (λ (p : Phase). DidEnd g.F.Files.told g.L.Lines.told (setting_of c.self.inside.config) g.T.Texts.read c.args.sid.number c.args.now row_end
+          (spot c.self.inside.registry.entries (g.F.Files.state c.args.files.now).shelf p c.self.inside.holders (g.L.Lines.traffic c.args.lines.now)) last) swapped.0 c.in-Ok.ensures.done);
+    }))
+
+pub returns-in-Ok-clause-ready : goal.returns-in-Ok-clause-ready
+returns-in-Ok-clause-ready g c =
+    let ready = subst (λ (n : NodeState). IsReady g.D.Disk.told g.F.Files.told g.L.Lines.told g.T.Texts.read n (g.D.Disk.state c.args.disk.now) (g.F.Files.state c.args.files.now) (g.L.Lines.traffic c.args.lines.now) c.args.beat.now (g.L.Lines.last c.args.lines.now) c.args.now) (sym c.self.view_is) c.requires.ready in
+    let xs : List Session = c.self.inside.sessions.items in
+    let at : ℕ = c.in-Some.at in
+    let first = subst (λ (l : List Session). place_of c.args.sid.number l ≡ Some at) c.deref.ensures.value (sym c.in-Some.ensures) in
+    let one = found xs at c.args.sid.number first in
+    let s : Session = one.session in
+    let swapped = c.swap_phase-phase.ensures.swapped s one.is in
+    let second = swapped_back xs c.swap_phase-phase.new.sessions.items c.swap_phase.new.sessions.items at s c.swap_phase.result c.on_end-ending.new.phase one.is swapped.1 c.swap_phase.ensures.swapped in
+    let node : NodeState = record { registry = c.self.inside.registry; config = c.self.inside.config; sessions = xs; readings = c.self.inside.readers.items; holdings = c.self.inside.holders } in
+    let start = told (g.F.Files.state c.args.files.now).shelf (g.F.Files.faults c.args.files.now) (g.L.Lines.traffic c.args.lines.now) (g.L.Lines.counts c.args.lines.now) in
+    let after : NodeState = record { registry = c.on_end-ending.new.registry; config = c.self.inside.config; sessions = c.swap_phase.new.sessions.items; readings = c.self.inside.readers.items; holdings = c.on_end-ending.new.holders } in
+    let has = subst (λ (n : ℕ). HasSessions g.L.Lines.told node (g.L.Lines.traffic c.args.lines.now) n) (sym (c.close_gone.ensures.last ∙ c.on_end-ending.ensures.last)) ready.sessions in
+    let e = c.in-Ok.ensures in
+    record {
+      home = record {
+        legal = e.legal;
+        on_time = e.on_time;
+        header = e.header;
+        sound = e.sound (λ h. let k : ⊥ = cc in k);
+        registry = λ told. e.registry told (λ h. let k : ⊥ = cc in k);
+        order = e.order;
+      };
+      files_order = e.files_order;
+      sessions = sessions_left g.L.Lines.told node after (g.L.Lines.traffic c.args.lines.now) (g.L.Lines.traffic c.close_gone.new.lines) (g.L.Lines.last c.close_gone.new.lines) at s c.on_end-ending.new.phase one.is second refl
+          (λ told. ap (λ (t : Traffic). t.taken) (c.close_gone.ensures.same told)
+          ∙ ended_taken g.F.Files.told g.L.Lines.told (setting_of c.self.inside.config) g.T.Texts.read c.args.sid.number c.args.now row_end
+          (spot c.self.inside.registry.entries (g.F.Files.state c.args.files.now).shelf c.swap_phase-phase.result c.self.inside.holders (g.L.Lines.traffic c.args.lines.now))
+          (spot c.on_end-ending.new.registry.entries (g.F.Files.state c.on_end-ending.new.files).shelf c.on_end-ending.new.phase c.on_end-ending.new.holders (g.L.Lines.traffic c.on_end-ending.new.lines)) e.done told)
+          has;
+      block = ready.block;
+    }
+
+pub returns-in-Err-clause-failed : goal.returns-in-Err-clause-failed
+returns-in-Err-clause-failed g c =
+    let xs : List Session = c.self.inside.sessions.items in
+    let at : ℕ = c.in-Some.at in
+    let first = subst (λ (l : List Session). place_of c.args.sid.number l ≡ Some at) c.deref.ensures.value (sym c.in-Some.ensures) in
+    let one = found xs at c.args.sid.number first in
+    let s : Session = one.session in
+    let swapped = c.swap_phase-phase.ensures.swapped s one.is in
+    let second = swapped_back xs c.swap_phase-phase.new.sessions.items c.swap_phase-in-Err.new.sessions.items at s c.swap_phase-in-Err.result c.on_end-ending.new.phase one.is swapped.1 c.swap_phase-in-Err.ensures.swapped in
+    let node : NodeState = record { registry = c.self.inside.registry; config = c.self.inside.config; sessions = xs; readings = c.self.inside.readers.items; holdings = c.self.inside.holders } in
+    let start = told (g.F.Files.state c.args.files.now).shelf (g.F.Files.faults c.args.files.now) (g.L.Lines.traffic c.args.lines.now) (g.L.Lines.counts c.args.lines.now) in
+    let after : NodeState = record { registry = c.on_end-ending.new.registry; config = c.self.inside.config; sessions = c.swap_phase-in-Err.new.sessions.items; readings = c.self.inside.readers.items; holdings = c.on_end-ending.new.holders } in
+    let end = told (g.F.Files.state c.on_end-ending.new.files).shelf (g.F.Files.faults c.on_end-ending.new.files) (g.L.Lines.traffic c.on_end-ending.new.lines) (g.L.Lines.counts c.on_end-ending.new.lines) in
+    let last = spot c.on_end-ending.new.registry.entries (g.F.Files.state c.on_end-ending.new.files).shelf c.on_end-ending.new.phase c.on_end-ending.new.holders (g.L.Lines.traffic c.on_end-ending.new.lines) in
+    subst (λ (n : NodeState). FailedLeaving g.F.Files.told g.L.Lines.told g.T.Texts.read c.args.now c.args.sid c.in-Err.fault n after start end) c.self.view_is (record {
+      at = at;
+      session = s;
+      phase = c.on_end-ending.new.phase;
+      first = first;
+      stands = one.is;
+      sessions = second;
+      readings = refl;
+      failed = subst (λ (p : Phase). EndStopped g.F.Files.told g.L.Lines.told (setting_of c.self.inside.config) g.T.Texts.read c.args.sid.number c.args.now row_end c.in-Err.fault
+          (spot c.self.inside.registry.entries (g.F.Files.state c.args.files.now).shelf p c.self.inside.holders (g.L.Lines.traffic c.args.lines.now)) last) swapped.0 c.in-Err.ensures.stopped;
+    })
+
+pub returns-in-Err-clause-home : goal.returns-in-Err-clause-home
+returns-in-Err-clause-home g c = λ other.
+    let e = c.in-Err.ensures in
+    let not_disk = λ (is : c.in-Err.fault ≡ fault.Disk). other (ap (λ (f : Fault). Err f) is) in
+    record {
+      legal = e.legal;
+      on_time = e.on_time;
+      header = e.header;
+      sound = e.sound (λ h. let is : c.in-Err.fault ≡ fault.Disk = cc in not_disk is);
+      registry = λ told. e.registry told (λ h. let is : c.in-Err.fault ≡ fault.Disk = cc in not_disk is);
+      order = e.order;
+    }
