@@ -53,6 +53,7 @@ impl MemoryLines {
     pub fn fail(&mut self, k: u64) -> Result<(), NoMemory>
         ensures added { OnOk result (lines_script self.new ≡ lines_script self.old ++ min (lines_calls self.old + k) 18446744073709551615 ∷ []) }
         ensures same { OnErr result (lines_script self.new ≡ lines_script self.old) }
+        ensures kept { (waiting_of self.new ≡ waiting_of self.old) × (are_refusing self.new ≡ are_refusing self.old) × (pieces_of self.new ≡ pieces_of self.old) }
         ensures others { SameSessions self.old self.new }
     {
         self.tally.fail(k)
@@ -61,6 +62,7 @@ impl MemoryLines {
     /// That many sessions wait to be accepted from now on, and then no more.
     pub fn incoming(&mut self, count: u64) -> Result<(), NoMemory>
         ensures waiting { IfOk result (λ _. waiting_of self.new ≡ count) }
+        ensures kept { (lines_script self.new ≡ lines_script self.old) × (are_refusing self.new ≡ are_refusing self.old) × (pieces_of self.new ≡ pieces_of self.old) }
         ensures others { SameSessions self.old self.new }
     {
         self.waiting = count;
@@ -76,6 +78,7 @@ impl MemoryLines {
     ) -> Result<(), NoMemory>
         ensures offered { OnOk result (pieces_of self.new ≡ pieces_of self.old ++ (record { session = session; rest = bytes.now; after = after }) ∷ []) }
         ensures same { OnErr result (pieces_of self.new ≡ pieces_of self.old) }
+        ensures kept { (lines_script self.new ≡ lines_script self.old) × (waiting_of self.new ≡ waiting_of self.old) × (are_refusing self.new ≡ are_refusing self.old) }
         ensures others { SameSessions self.old self.new }
     {
         let bytes = Vec::from_slice(self.alloc, bytes)?;
@@ -86,6 +89,7 @@ impl MemoryLines {
     /// Connections are refused from now on, or no longer.
     pub fn refuse(&mut self, on: bool)
         ensures refusing { are_refusing self.new ≡ on }
+        ensures kept { (lines_script self.new ≡ lines_script self.old) × (waiting_of self.new ≡ waiting_of self.old) × (pieces_of self.new ≡ pieces_of self.old) }
         ensures others { SameSessions self.old self.new }
     {
         self.refusing = on;

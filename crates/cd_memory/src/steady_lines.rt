@@ -47,6 +47,7 @@ impl SteadyLines {
     pub fn room(&mut self, calls: usize, bytes: usize) -> Result<(), NoMemory>
         ensures traffic { traffic_of self.new ≡ traffic_of self.old }
         ensures last { last_of self.new ≡ last_of self.old }
+        ensures counts { ((counts_of self.new).connects ≡ (counts_of self.old).connects) × ((counts_of self.new).accepts ≡ (counts_of self.old).accepts) × ((counts_of self.new).nones ≡ (counts_of self.old).nones) }
         ensures waiting { (waiting_of self.new ≡ waiting_of self.old) × (pieces_of self.new ≡ pieces_of self.old) }
         ensures calls { OnOk result (calls ≤ calls_left self.new) }
         ensures bytes { OnOk result (bytes ≤ bytes_left self.new) }

@@ -1,5 +1,5 @@
 //! The steady forms of files, lines and the spawner, within the room that was made for them.
-use crate::{SteadyFiles, SteadyLines, SteadySpawner};
+use cd_memory::{SteadyFiles, SteadyLines, SteadySpawner};
 use cd_outside::{Beat, Files, Lines, Outcome, Spawner};
 use std::test::Fail;
 
