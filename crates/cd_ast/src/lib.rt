@@ -7,8 +7,6 @@ mod piece;
 mod process;
 mod refusal;
 mod stmts;
-#[cfg(test)]
-mod tests;
 
 pub use canonical::print;
 pub use fault::{FaultName, StartRefusal};

@@ -3,8 +3,6 @@
 
 mod filing;
 mod law;
-#[cfg(test)]
-mod tests;
 
 pub use filing::{DEFAULT_INTERVAL, filled, is_push, with_options};
 pub use law::law_of_filings;

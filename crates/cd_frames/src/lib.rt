@@ -9,8 +9,6 @@ mod reader;
 mod reading;
 mod room;
 mod symbols;
-#[cfg(test)]
-mod tests;
 mod writing;
 
 pub use frame::{Frame, FrameFault, Hello, RejectCause, Welcome};

@@ -7,8 +7,6 @@ mod mark;
 mod reading;
 mod starts;
 mod step;
-#[cfg(test)]
-mod tests;
 mod token;
 mod values;
 mod words;

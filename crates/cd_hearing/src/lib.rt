@@ -3,8 +3,6 @@
 
 mod heard;
 mod law;
-#[cfg(test)]
-mod tests;
 mod texts;
 
 pub use heard::{Heard, hear};

@@ -11,7 +11,5 @@ mod placed;
 mod received;
 mod started;
 mod symbols;
-#[cfg(test)]
-mod tests;
 
 pub use judge::may_follow;

@@ -17,6 +17,3 @@ pub use given::defaults;
 pub use law::{law_of_substitution, law_of_tokens};
 pub use subst::substitute;
 pub use token::{Token, TokenKind, tokens};
-
-#[cfg(test)]
-mod tests;

@@ -8,8 +8,6 @@ mod late;
 mod leaf;
 mod reader;
 mod statement;
-#[cfg(test)]
-mod tests;
 mod texts;
 mod turn;
 mod value;

@@ -3,8 +3,6 @@
 
 mod canonical;
 mod law;
-#[cfg(test)]
-mod tests;
 
 pub use canonical::Canonical;
 pub use law::law_of_readings;

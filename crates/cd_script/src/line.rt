@@ -1,11 +1,11 @@
 //! What a line asks for.
-ghost use Rattle.std.specs.Prelude.{◌≡◌, option_map, Bool, List, ℕ};
+ghost use Rattle.std.specs.Prelude.{◌≡◌, option_map, Bool, List, ℕ, IfOk};
 ghost use Rattle.cd_script.specs.Script.{party_of, party_in, file_in, behind_gap, text_in, fill_in, do_in, turn_in, by_word, order_of, is_skipped};
 ghost use Rattle.cd_script.specs.Seen.{seen_order};
 
 use crate::order::{Order, Party};
 use crate::words::{is_end, number_of, ungapped, word_in};
-use cd_types::is_file_name;
+use cd_types::{NoMemory, is_file_name};
 
 /// The most bytes of a file that a line makes.
 const MOST_BYTES: u64 = 65_535;
@@ -16,8 +16,8 @@ pub trait Reserved {
     ghost reserved: { List ℕ → Bool };
 
     /// Whether the text is such a command.
-    fn is_reserved(&self, text: &[u8]) -> bool
-        ensures { result ≡ reserved text.now };
+    fn is_reserved(&self, text: &[u8]) -> Result<bool, NoMemory>
+        ensures { IfOk result (λ told. told ≡ reserved text.now) };
 }
 
 fn party_of(word: &[u8]) -> Option<Party>
@@ -88,15 +88,17 @@ fn fill_in(bytes: &[u8]) -> Option<Order<'_>>
     }
 }
 
-fn do_in<'a, R: Reserved>(reserved: &R, bytes: &'a [u8]) -> Option<Order<'a>>
-    ensures { option_map seen_order result ≡ do_in R.reserved bytes.now }
+fn do_in<'a, R: Reserved>(reserved: &R, bytes: &'a [u8]) -> Result<Option<Order<'a>>, NoMemory>
+    ensures { IfOk result (λ order. option_map seen_order order ≡ do_in R.reserved bytes.now) }
 {
-    let (party, rest) = party_in(bytes)?;
+    let Some((party, rest)) = party_in(bytes) else {
+        return Ok(None);
+    };
     let command = ungapped(rest);
-    if reserved.is_reserved(command) {
-        None
-    } else {
-        Some(Order::Do(party, command))
+    match reserved.is_reserved(command) {
+        Ok(true) => Ok(None),
+        Ok(false) => Ok(Some(Order::Do(party, command))),
+        Err(fault) => Err(fault),
     }
 }
 
@@ -113,20 +115,28 @@ fn turn_in(bytes: &[u8]) -> Option<Order<'_>>
 }
 
 /// What a line asks for; `None` where it asks for nothing that a line may ask for.
-pub fn order_of<'a, R: Reserved>(reserved: &R, line: &'a [u8]) -> Option<Order<'a>>
-    ensures { option_map seen_order result ≡ order_of R.reserved line.now }
+pub fn order_of<'a, R: Reserved>(
+    reserved: &R,
+    line: &'a [u8],
+) -> Result<Option<Order<'a>>, NoMemory>
+    ensures { IfOk result (λ order. option_map seen_order order ≡ order_of R.reserved line.now) }
 {
-    let (word, rest) = word_in(line)?;
+    let Some((word, rest)) = word_in(line) else {
+        return Ok(None);
+    };
     if word == b"text".as_slice() {
-        text_in(rest)
+        Ok(text_in(rest))
     } else if word == b"fill".as_slice() {
-        fill_in(rest)
+        Ok(fill_in(rest))
     } else if word == b"do".as_slice() {
-        do_in(reserved, rest)
+        match do_in(reserved, rest) {
+            Ok(order) => Ok(order),
+            Err(fault) => Err(fault),
+        }
     } else if word == b"turn".as_slice() {
-        turn_in(rest)
+        Ok(turn_in(rest))
     } else {
-        None
+        Ok(None)
     }
 }
 

@@ -77,8 +77,9 @@ fn read_line<'a, R: Reserved>(
         return Ok(None);
     }
     match order_of(reserved, line) {
-        Some(order) => Ok(Some(order)),
-        None => Err(ScriptFault::ScriptText(at)),
+        Ok(Some(order)) => Ok(Some(order)),
+        Ok(None) => Err(ScriptFault::ScriptText(at)),
+        Err(_) => Err(ScriptFault::NoMemory),
     }
 }
 

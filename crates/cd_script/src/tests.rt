@@ -1,4 +1,5 @@
 use crate::{Order, Party, Reserved, ScriptFault, read_script};
+use cd_types::NoMemory;
 use std::alloc::{AllocError, Global};
 use std::test::Fail;
 
@@ -11,8 +12,8 @@ impl Reserved for StopAlone {
 
     ghost reserved = { λ text. bytes_eq text (codes "stop;") };
 
-    fn is_reserved(&self, text: &[u8]) -> bool {
-        text == b"stop;".as_slice()
+    fn is_reserved(&self, text: &[u8]) -> Result<bool, NoMemory> {
+        Ok(text == b"stop;".as_slice())
     }
 }
 

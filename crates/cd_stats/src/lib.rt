@@ -4,8 +4,6 @@
 mod digits;
 mod line;
 mod statistics;
-#[cfg(test)]
-mod tests;
 mod words;
 
 pub use line::{Line, Numbered, line_of};

@@ -33,7 +33,6 @@ pub enum Order {
 }
 
 /// A submission of this Process.
-
 fn submitted(process: Process, options: &Options) -> Order
     ensures order { result ≡ submitted options.now process }
     ensures formed { (text : List ℕ) (overrides : List (List ℕ × List ℕ)) → Says text overrides process → IsFormed result }

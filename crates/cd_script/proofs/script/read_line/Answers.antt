@@ -1,4 +1,5 @@
-use Rattle.std.proofs.Common.{◌≡◌, sym, arith}
+use Rattle.std.proofs.Common.{◌≡◌, sym, ap, ◌∙◌, arith}
+use Rattle.std.specs.Prelude.{option_map}
 use Rattle.cd_script.specs.Seen.{seen_order}
 use Rattle.cd_script.proofs.Lines.{long_line, skipped_line, order_line, bad_line}
 use Rattle.cd_script.proofs.script.read_line.Goals as goal
@@ -9,8 +10,8 @@ returns-then-line-gt-MOST_LINE-clause-fault g c n more = long_line _ c.args.at n
 pub returns-then-is_skipped-clause-read : goal.returns-then-is_skipped-clause-read
 returns-then-is_skipped-clause-read g c n more = skipped_line _ c.args.at n c.args.line.now more (omega (arith, c.if-line-gt-MOST_LINE.false)) (sym c.if-is_skipped.ensures)
 
-pub returns-in-Some-clause-read : goal.returns-in-Some-clause-read
-returns-in-Some-clause-read g c n more = order_line _ c.args.at n c.args.line.now more (omega (arith, c.if-line-gt-MOST_LINE.false)) (sym c.if-is_skipped.ensures) (seen_order c.in-Some.order) (sym c.in-Some.ensures)
+pub returns-in-Ok-Some-clause-read : goal.returns-in-Ok-Some-clause-read
+returns-in-Ok-Some-clause-read g c n more = order_line _ c.args.at n c.args.line.now more (omega (arith, c.if-line-gt-MOST_LINE.false)) (sym c.if-is_skipped.ensures) (seen_order c.in-Ok-Some.order) (sym (c.in-Ok-Some.ensures) ∙ ap (option_map seen_order) c.in-Ok-Some.field-0-is)
 
-pub returns-in-None-clause-fault : goal.returns-in-None-clause-fault
-returns-in-None-clause-fault g c n more = bad_line _ c.args.at n c.args.line.now more (omega (arith, c.if-line-gt-MOST_LINE.false)) (sym c.if-is_skipped.ensures) (sym c.in-None.ensures)
+pub returns-in-Ok-None-clause-fault : goal.returns-in-Ok-None-clause-fault
+returns-in-Ok-None-clause-fault g c n more = bad_line _ c.args.at n c.args.line.now more (omega (arith, c.if-line-gt-MOST_LINE.false)) (sym c.if-is_skipped.ensures) (sym (c.in-Ok-None.ensures) ∙ ap (option_map seen_order) c.in-Ok-None.field-0-is)

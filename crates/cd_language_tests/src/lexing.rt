@@ -1,4 +1,4 @@
-use crate::{LexFault, SymFault, TokenKind, defaults, substitute, tokens};
+use cd_lexer::{LexFault, SymFault, TokenKind, defaults, substitute, tokens};
 use cd_types::Symbols;
 use std::alloc::{AllocError, Global};
 use std::test::Fail;

@@ -1,4 +1,4 @@
-use crate::{CopyStep, Process, Stmt, Stmts, SubmitStep, TaskStep, What, print};
+use cd_ast::{CopyStep, Process, Stmt, Stmts, SubmitStep, TaskStep, What, print};
 use cd_types::{
     Bytes, Card, Day, Disp, Hold, Label, NodeName, Relation, Retain, Side, Start, Symbols, TaskKind,
 };

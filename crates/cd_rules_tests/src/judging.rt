@@ -2,10 +2,10 @@
 ghost use Rattle.std.specs.Prelude.{◌≡◌, None};
 ghost use Rattle.cd_book.specs.Book.{IsRead};
 
-use crate::may_follow;
 use cd_ast::{Process, Stmt, Stmts, TaskStep, What};
 use cd_book::{Book, Status, Texts};
 use cd_entries::Entry;
+use cd_judge::may_follow;
 use cd_types::{
     Bytes, Card, Cause, Disp, Filed, Hold, How, Key, Label, Moment, NoMemory, NodeName, Outcomes,
     Placing, ProcNo, Queue, Reason, Receiving, Retain, Side, TaskKind,

@@ -1,7 +1,7 @@
 //! Submissions worked by hand: the texts that are kept of them.
-use crate::{DEFAULT_INTERVAL, filled, is_push, with_options};
 use cd_ast::{Process, print};
 use cd_commands::{Command, read_command};
+use cd_filing::{DEFAULT_INTERVAL, filled, is_push, with_options};
 use std::alloc::Global;
 use std::test::Fail;
 

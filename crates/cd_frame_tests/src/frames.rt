@@ -1,5 +1,5 @@
 //! Every kind of frame against bytes that were written by hand from the formats, and the reader on pieces of any size.
-use crate::{
+use cd_frames::{
     Frame, FrameFault, Hello, Reader, RejectCause, Welcome, symbols_of, write_frame, write_symbols,
 };
 use cd_types::{Cause, Disp, Key, NodeName, Outcomes, ProcNo, TaskKind};
@@ -77,7 +77,7 @@ const BROKEN: [&[u8]; 22] = [
 ];
 
 /// Puts bytes into the room, all of them.
-#[tactic(auto, using(crate::specs::ReadingLaw::length_overwritten))]
+#[tactic(auto, using(cd_frames::specs::ReadingLaw::length_overwritten))]
 fn fill(reader: &mut Reader, bytes: &[u8]) -> Result<(), Fail> {
     let room = reader.room();
     if room.len() < bytes.len() {

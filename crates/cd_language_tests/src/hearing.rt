@@ -1,7 +1,7 @@
 //! Texts of commands, with what they say, worked by hand.
-use crate::{Heard, hear, read_as};
 use cd_ast::{FaultName, print};
 use cd_commands::Command;
+use cd_hearing::{Heard, hear, read_as};
 use cd_types::Symbols;
 use std::alloc::Global;
 use std::process::Abort;

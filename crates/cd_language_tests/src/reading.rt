@@ -1,7 +1,7 @@
 //! A text that is canonical, one that only says the same Process, and some that say none.
-use crate::Canonical;
 use cd_ast::print;
 use cd_book::Texts;
+use cd_reading::Canonical;
 use std::alloc::Global;
 use std::process::Abort;
 use std::test::Fail;

@@ -1,6 +1,6 @@
 //! The limits, and values from outside. Rows of texts stand as the input and output of the program `cd_texts`.
-use crate::{ParseFault, parse, parse_plain};
 use cd_ast::{Process, print};
+use cd_parser::{ParseFault, parse, parse_plain};
 use cd_types::Symbols;
 use std::alloc::Global;
 use std::process::Abort;

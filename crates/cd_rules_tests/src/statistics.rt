@@ -1,8 +1,8 @@
 //! Lines of a report, written by hand.
-use crate::{line_of, write_statistics};
 use cd_ast::Process;
 use cd_book::{Book, Texts};
 use cd_entries::Entry;
+use cd_stats::{line_of, write_statistics};
 use cd_types::{
     Cause, Filed, Hold, How, Key, Label, Moment, NoMemory, NodeName, Outcomes, ProcNo, Retain,
 };

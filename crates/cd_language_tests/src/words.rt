@@ -1,8 +1,8 @@
-use crate::{
+use cd_ast::FaultName;
+use cd_grammar::{
     Clock, Key, Lent, Sign, clock_in, day_in, front_label_in, half_in, half_time, interval_in,
     key_of, label_in, named_time, node_in, number_in, plain_time, sign_of, symbol_in,
 };
-use cd_ast::FaultName;
 use cd_types::Day;
 use std::alloc::{AllocError, Global};
 use std::test::Fail;
