@@ -4,8 +4,6 @@
 //! status and the length of the journal that it leaves, in bytes.
 #![tactic(auto)]
 
-ghost use Rattle.std.specs.Prelude.{◌≤◌, length};
-
 mod machine;
 
 use anyhow::Result;
@@ -15,22 +13,10 @@ use std::alloc::Global;
 use std::io;
 
 /// What stands between two texts.
-const BETWEEN: &[u8] = b"\n%%\n";
+const BETWEEN: &str = "\n%%\n";
 
 /// Names the home ALPHA.
 const INIT: &[u8] = b"init name=ALPHA home=17;";
-
-// Where the next text ends, and where the one behind it begins.
-fn next_end(texts: &[u8], from: usize) -> (usize, usize)
-    ensures { result.0 ≤ length texts.now }
-{
-    for at in from..texts.len() {
-        if texts[at..].starts_with(BETWEEN) {
-            return (at, at.saturating_add(BETWEEN.len()));
-        }
-    }
-    (texts.len(), texts.len())
-}
 
 // What a run on a home with this name, or without one, answers to these commands.
 fn answers(alloc: Global, is_named: bool, commands: &[u8]) -> Result<String, NoMemory> {
@@ -58,17 +44,16 @@ fn said(alloc: Global, text: &[u8]) -> Result<String, NoMemory> {
 
 fn main(rt: HostRuntime) -> Result<()> {
     let input = io::read_to_string(rt.alloc(), rt.reader())?;
-    let texts = input.as_bytes();
-    let mut from = 0;
-    for _ in 0..texts.len() {
-        let (end, next) = next_end(texts, from);
-        if from < end {
-            match said(rt.alloc(), &texts[from..end]) {
-                Ok(text) => println!(rt; "{text}%%")?,
+    let mut rest: &str = &input;
+    for _ in 0..input.len() {
+        let (text, more) = rest.split_once(BETWEEN).unwrap_or((rest, ""));
+        if !text.is_empty() {
+            match said(rt.alloc(), text.as_bytes()) {
+                Ok(said) => println!(rt; "{said}%%")?,
                 Err(_) => println!(rt; "NO MEMORY\n%%")?,
             }
         }
-        from = next;
+        rest = more;
     }
     Ok(())
 }

@@ -2,8 +2,6 @@
 //! and its output has of each the canonical text, or its first fault with its place, and a line `%%`.
 #![tactic(auto)]
 
-ghost use Rattle.std.specs.Prelude.{◌≤◌, length};
-
 use anyhow::Result;
 use cd_ast::print;
 use cd_parser::{ParseFault, parse};
@@ -12,19 +10,7 @@ use std::alloc::Global;
 use std::io;
 
 /// What stands between two texts.
-const BETWEEN: &[u8] = b"\n%%\n";
-
-// Where the next text ends, and where the one behind it begins.
-fn next_end(texts: &[u8], from: usize) -> (usize, usize)
-    ensures { result.0 ≤ length texts.now }
-{
-    for at in from..texts.len() {
-        if texts[at..].starts_with(BETWEEN) {
-            return (at, at.saturating_add(BETWEEN.len()));
-        }
-    }
-    (texts.len(), texts.len())
-}
+const BETWEEN: &str = "\n%%\n";
 
 // The canonical text, or the fault with its place and a line's end.
 fn said(alloc: Global, text: &[u8]) -> Result<String> {
@@ -40,15 +26,14 @@ fn said(alloc: Global, text: &[u8]) -> Result<String> {
 
 fn main(rt: HostRuntime) -> Result<()> {
     let input = io::read_to_string(rt.alloc(), rt.reader())?;
-    let texts = input.as_bytes();
-    let mut from = 0;
-    for _ in 0..texts.len() {
-        let (end, next) = next_end(texts, from);
-        if from < end {
-            let text = said(rt.alloc(), &texts[from..end])?;
-            println!(rt; "{text}%%")?;
+    let mut rest: &str = &input;
+    for _ in 0..input.len() {
+        let (text, more) = rest.split_once(BETWEEN).unwrap_or((rest, ""));
+        if !text.is_empty() {
+            let said = said(rt.alloc(), text.as_bytes())?;
+            println!(rt; "{said}%%")?;
         }
-        from = next;
+        rest = more;
     }
     Ok(())
 }
