@@ -78,7 +78,7 @@ fn a_home_that_has_a_name(rt: HostRuntime) -> Result<(), Fail> {
 }
 
 /// Commands on a home without a name, the lines that answer them, and the exit status.
-const ANSWERS: [(&[u8], &[u8], u8); 25] = [
+const ANSWERS: [(&[u8], &[u8], u8); 31] = [
     (b"", b"", 0),
     (b" \t\r\n/* none */\n* none\n", b"", 0),
     (b"stop;", b"STOPPED\n", 0),
@@ -100,10 +100,41 @@ const ANSWERS: [(&[u8], &[u8], u8); 25] = [
         b"REFUSED NOTHOME\n",
         2,
     ),
+    // What is wrong with the text goes first, then what isn't built, then a home without a name, then a missing partner.
+    (
+        b"submit P1 PROCESS RETAIN=INITIAL STARTT=(TODAY) S1 COPY FROM (FILE=a) TO (FILE=b) PEND;",
+        b"REFUSED TEXT RetainStart 11\n",
+        2,
+    ),
+    (
+        b"submit retain=initial P1 PROCESS STARTT=(TODAY) S1 COPY FROM (FILE=a) TO (FILE=b) PEND;",
+        b"REFUSED TEXT RetainStart 0\n",
+        2,
+    ),
+    (
+        b"submit P1 PROCESS HOLD=YES S1 COPY FROM (FILE=a) TO (FILE=b) PEND;",
+        b"REFUSED NOTYET\n",
+        2,
+    ),
+    (
+        b"submit P1 PROCESS S1 COPY FROM (FILE=a) TO (FILE=b) PEND;",
+        b"REFUSED NOTHOME\n",
+        2,
+    ),
     (
         b"init name=A home=9223372036854775808;",
         b"HOME A 9223372036854775808\n",
         0,
+    ),
+    (
+        b"init name=A home=18446744073709551615;",
+        b"HOME A 18446744073709551615\n",
+        0,
+    ),
+    (
+        b"init name=A home=18446744073709551616;",
+        b"REFUSED TEXT Word 17\n",
+        2,
     ),
     (b"init name=A home=00000000000000000001;", b"HOME A 1\n", 0),
     (
@@ -131,7 +162,7 @@ const ANSWERS: [(&[u8], &[u8], u8); 25] = [
 ];
 
 /// Commands on a home with a name that are refused, and change nothing, with the lines that answer them.
-const REFUSED: [(&[u8], &[u8]); 18] = [
+const REFUSED: [(&[u8], &[u8]); 23] = [
     (
         b"submit G1 PROCESS SNODE=BETA\nA1 GOTO A1\nPEND;",
         b"REFUSED TEXT Backward 30\n",
@@ -172,6 +203,26 @@ const REFUSED: [(&[u8], &[u8]); 18] = [
     ),
     (
         b"submit P1 PROCESS SNODE=BETA HOLD=YES S1 COPY FROM (FILE=a) TO (FILE=b) PEND;",
+        b"REFUSED NOTYET\n",
+    ),
+    (
+        b"submit prty=10 P1 PROCESS SNODE=BETA S1 COPY FROM (FILE=a) TO (FILE=b) PEND;",
+        b"REFUSED NOTYET\n",
+    ),
+    (
+        b"submit hold=no P1 PROCESS SNODE=BETA HOLD=YES S1 COPY FROM (FILE=a) TO (FILE=b) PEND;",
+        b"REFUSED NOTYET\n",
+    ),
+    (
+        b"submit retain=no P1 PROCESS SNODE=BETA S1 COPY FROM (FILE=a) TO (FILE=b) PEND;",
+        b"REFUSED NOTYET\n",
+    ),
+    (
+        b"submit startt=(TODAY) P1 PROCESS SNODE=BETA S1 COPY FROM (FILE=a) TO (FILE=b) PEND;",
+        b"REFUSED NOTYET\n",
+    ),
+    (
+        b"submit P1 PROCESS HOLD=YES S1 COPY FROM (FILE=a) TO (FILE=b) PEND;",
         b"REFUSED NOTYET\n",
     ),
     (
