@@ -4,7 +4,13 @@ use Rattle.std.specs.List.{list_any}
 use Rattle.std.proofs.lemmas.List.Folds.{list_any-append}
 use Rattle.cd_entries.specs.declared.entry.Entry.{Entry}
 use Rattle.cd_turn.specs.Entries.{submitted_in, live_in}
-use Rattle.cd_turn.specs.Home.{KeepsEntries}
+use Rattle.cd_outside.specs.Disk.{DiskState}
+use Rattle.cd_outside.specs.Doubt.{IsImage}
+use Rattle.cd_turn.specs.Ends.{MayLeave}
+use Rattle.cd_turn.specs.Home.{IsJournal}
+use Rattle.cd_turn.proofs.Homes.{kept_image}
+use Rattle.cd_turn.specs.declared.status.Status.{Status}
+use Rattle.cd_turn.specs.declared.status.Status.TheVariants.{Done, Usage, Refused, Unfit, SourceFault, DiskFault, SinkFault, InputLimit, JournalFull, NoMemory}
 use Rattle.cd_ast.specs.declared.process.Process.{Process}
 use Rattle.cd_turn.specs.declared.order.Order.{Order}
 use Rattle.cd_turn.specs.declared.order.Order.TheVariants as order
@@ -13,7 +19,7 @@ use Rattle.cd_turn.specs.Turn.{Turn, answer, room_answer, partner_answer, submis
 use Rattle.cd_turn.specs.declared.reply.Reply.TheVariants as reply
 use Rattle.cd_turn.specs.declared.reply.Refusal.TheVariants.{Full}
 use Rattle.cd_cli.specs.Acknowledged.{tells, submits, KeepsNumber}
-use Rattle.cd_cli.specs.Run.{Keeps}
+use Rattle.cd_cli.specs.Run.{added_by, told_turns, Ran}
 use Rattle.cd_cli.proofs.Turning.{or_false}
 
 -- what a list has, a longer one has
@@ -54,7 +60,7 @@ either : (a b : Bool) → (a || b) ≡ true → (a ≡ true) ⊎ (b ≡ true)
 either true b h = inl refl
 either false b h = inr h
 
-pub told_kept : (n : ℕ) (entries : List Entry) (turns : List Turn) → list_any (tells n) (replies entries turns) ≡ true → list_any (submits n) (after_turns entries turns) ≡ true
+told_kept : (n : ℕ) (entries : List Entry) (turns : List Turn) → list_any (tells n) (replies entries turns) ≡ true → list_any (submits n) (after_turns entries turns) ≡ true
 told_kept n entries [] h = absurd cc
 told_kept n entries (turn ∷ turns) h =
     let wanted = told_by turn.event in
@@ -64,9 +70,42 @@ told_kept n entries (turn ∷ turns) h =
     (λ (later : list_any (tells n) (replies (after_turn entries turn) turns) ≡ true). told_kept n (after_turn entries turn) turns later)
     (either (tells n (answer entries wanted)) (list_any (tells n) (replies (after_turn entries turn) turns)) h)
 
+-- a journal of a list that has it
+journal_number : (n : ℕ) (entries more : List Entry) (image : List ℕ) → list_any (submits n) entries ≡ true → IsJournal (entries ++ more) image → KeepsNumber n image
+journal_number n entries more image has is = record { list = entries ++ more; stands = is.stands; has = has_front n entries more has }
+
+journal_has : (n : ℕ) (entries : List Entry) (image : List ℕ) → list_any (submits n) entries ≡ true → IsJournal entries image → KeepsNumber n image
+journal_has n entries image has is = record { list = entries; stands = is.stands; has = has }
+
+leaves_number : (fresh : Type 0) (n : ℕ) (entries : List Entry) (entry : Option Entry) (image : List ℕ) → list_any (submits n) entries ≡ true → MayLeave fresh entries entry image → KeepsNumber n image
+leaves_number fresh n entries None image has left = journal_has n entries image has left
+leaves_number fresh n entries (Some e) image has left = ⊎_elim
+    (λ (is : IsJournal entries image). journal_has n entries image has is)
+    (λ (more : IsJournal (entries ++ e ∷ []) image ⊎ (fresh × (entries ≡ []) × (length image ≤ 9))). ⊎_elim
+    (λ (is : IsJournal (entries ++ e ∷ []) image). journal_number n entries (e ∷ []) image has is)
+    (λ (none : fresh × (entries ≡ []) × (length image ≤ 9)). let no_entry : false ≡ true = sym (ap (list_any (submits n)) none.1) ∙ has in absurd cc)
+    more)
+    left
+
 -- and what a crash leaves has it
-pub keeps_number : (n : ℕ) (entries : List Entry) (image : List ℕ) → list_any (submits n) entries ≡ true → Keeps entries image → KeepsNumber n image
-keeps_number n entries image has keeps = ⊎_elim
-    (λ (k : KeepsEntries entries image). record { list = k.list; stands = k.stands; has = ap (list_any (submits n)) k.extends.1 ∙ has_front n entries k.extends.0 has })
-    (λ (none : (entries ≡ []) × (length image ≤ 9)). let no_entry : false ≡ true = sym (ap (list_any (submits n)) none.0) ∙ has in absurd cc)
-    keeps
+module _ (fresh disk clock source sink : Type 0) (moment : ℕ) (entries : List Entry) (out input rest : List ℕ) (now : DiskState) (out_now : List ℕ) where
+  module _ (status : Status) (r : Ran fresh disk clock source sink moment entries out input rest now out_now status) (told : disk) (n : ℕ) (image : List ℕ) (left : IsImage now.doubt image) where
+    turns_number : list_any (tells n) (replies entries r.turns) ≡ true → KeepsNumber n image
+    turns_number number = leaves_number fresh n (after_turns entries r.turns) (added_by (after_turns entries r.turns) r.begun) image (told_kept n entries r.turns number) (r.keeps told image left)
+
+    written_number : status ≡ SinkFault → list_any (tells n) (replies entries (r.turns ++ option_to_list r.begun)) ≡ true → KeepsNumber n image
+    written_number is number =
+        let all = r.turns ++ option_to_list r.begun in
+        journal_has n (after_turns entries all) image (told_kept n entries all number) (kept_image (after_turns entries all) now image (r.written told is) left)
+
+  pub keeps_number : (status : Status) (r : Ran fresh disk clock source sink moment entries out input rest now out_now status) → disk → (n : ℕ) (image : List ℕ) → list_any (tells n) (replies entries (told_turns status r.turns r.begun)) ≡ true → IsImage now.doubt image → KeepsNumber n image
+  keeps_number Done r told n image number left = turns_number Done r told n image left number
+  keeps_number Usage r told n image number left = turns_number Usage r told n image left number
+  keeps_number Refused r told n image number left = turns_number Refused r told n image left number
+  keeps_number (Unfit at) r told n image number left = turns_number (Unfit at) r told n image left number
+  keeps_number DiskFault r told n image number left = turns_number DiskFault r told n image left number
+  keeps_number (JournalFull len) r told n image number left = turns_number (JournalFull len) r told n image left number
+  keeps_number SourceFault r told n image number left = turns_number SourceFault r told n image left number
+  keeps_number SinkFault r told n image number left = written_number SinkFault r told n image left refl number
+  keeps_number InputLimit r told n image number left = turns_number InputLimit r told n image left number
+  keeps_number NoMemory r told n image number left = turns_number NoMemory r told n image left number

@@ -81,7 +81,7 @@ module _ (disk clock source sink rose_disk rose_in rose_out : Type 0) (moment : 
     Whole status = (status ≡ NoMemory) ⊎ IsWhole moment entries input out out_now status
 
     abbrev Came : Status → Type 0
-    Came status = Ran disk clock source sink moment entries out input rest now told status
+    Came status = Ran (before.seen ≡ []) disk clock source sink moment entries out input rest now told status
 
     -- all turns of the input were made
     whole : (turns : List Turn) (begun : Option Turn) (was : Bool) → All (At moment) (turns ++ option_to_list begun) → map event_in turns ≡ run_events input → refused_after false (replies entries turns) ≡ was

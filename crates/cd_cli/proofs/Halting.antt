@@ -2,23 +2,19 @@
 use Rattle.std.proofs.Common.{◌≡◌, ◌⊎◌, inl, inr, ⊎_elim, ℕ, ◌+◌, ◌-◌, ◌<◌, ◌≤◌, max, cond, ◌||◌, Bool, true, false, List, [], ◌∷◌, ◌++◌, length, map, take, Option, Some, None, option_to_list, Result, Ok, Err, refl, sym, ap, subst, ◌∙◌, append_assoc, arith}
 use Rattle.std.specs.Prelude.{All}
 use Rattle.std.specs.List.{list_any}
-use Rattle.std.proofs.lemmas.List.{append-nil}
 use Rattle.std.proofs.lemmas.List.Elements.{All-cons, All-nil, All-weaker}
 use Rattle.cd_outside.specs.Disk.{DiskState, last_of, LeftAt}
 use Rattle.cd_outside.specs.Doubt.{Doubt, IsImage}
 use Rattle.cd_outside.specs.Moments.{Moments}
-use Rattle.cd_outside.proofs.Images.{settled_image}
 use Rattle.cd_outside.proofs.Runs.{doubt_now}
-use Rattle.cd_journal.specs.Bytes.{list_of}
 use Rattle.cd_entries.specs.declared.entry.Entry.{Entry}
 use Rattle.cd_input.specs.Input.{Event, upto_first}
 use Rattle.cd_turn.specs.Ends.{MayLeave, HasReason, TookAtEnd}
-use Rattle.cd_turn.specs.Home.{HomeState, IsHome, StandsFor, KeepsEntries}
-use Rattle.cd_turn.specs.Legal.{IsLegal}
+use Rattle.cd_turn.specs.Home.{IsJournal, HasKept}
 use Rattle.cd_turn.specs.declared.order.Order.{Order}
 use Rattle.cd_turn.specs.Order.{told_by}
 use Rattle.cd_turn.specs.Reply.{reply_text}
-use Rattle.cd_turn.specs.Turn.{Turn, answer, added}
+use Rattle.cd_turn.specs.Turn.{Turn, answer, added, after_turns}
 use Rattle.cd_turn.specs.declared.status.Status.{Status}
 use Rattle.cd_turn.specs.declared.status.Status.TheVariants.{Done, Usage, Refused, Unfit, SourceFault, DiskFault, SinkFault, InputLimit, JournalFull, NoMemory}
 use Rattle.cd_cli.specs.declared.flow.Flow.{Flow}
@@ -26,29 +22,30 @@ use Rattle.cd_cli.specs.declared.flow.Flow.TheVariants as flow
 use Rattle.cd_cli.specs.declared.flow.Last.{Last}
 use Rattle.cd_cli.specs.declared.flow.Last.TheVariants as last
 use Rattle.cd_cli.specs.Flow.{was_refused, last_in, ends_in, status_after}
-use Rattle.cd_cli.specs.Run.{ends_run, HasCause, IfBetween, Keeps, line_of}
+use Rattle.cd_turn.proofs.Homes.{leaves_none, kept_image}
+use Rattle.cd_cli.specs.Run.{ends_run, HasCause, IfBetween, added_by, Keeps, line_of, Ran}
 use Rattle.cd_cli.specs.Stretch.{Standing, standing, HaveTurned, Halted, Went, Closes, Finishes}
 use Rattle.cd_cli.proofs.Turning.{turned_none, turned_since}
 
-left_keeps : (fresh : Type 0) (entries : List Entry) (image : List ℕ) → MayLeave fresh entries image → Keeps entries image
-left_keeps fresh entries image left = ⊎_elim (λ (k : KeepsEntries entries image). inl k) (λ (n : fresh × (entries ≡ []) × (length image ≤ 9)). inr (n.1, n.2)) left
-
 -- what a crash may leave behind a run of calls
-pub keeps_behind : (before now : DiskState) (from : ℕ) (fresh : Type 0) (entries : List Entry) → Moments (LeftAt before) (LeftAt now) from (MayLeave fresh entries) → (image : List ℕ) → IsImage now.doubt image → Keeps entries image
-keeps_behind before now from fresh entries moments image left =
+pub keeps_behind : (before now : DiskState) (from : ℕ) (fresh : Type 0) (entries : List Entry) (entry : Option Entry) → Moments (LeftAt before) (LeftAt now) from (MayLeave fresh entries entry) → (image : List ℕ) → IsImage now.doubt image → MayLeave fresh entries entry image
+keeps_behind before now from fresh entries entry moments image left =
     let beat = max (last_of now.calls) from + 1 in
     let later : last_of now.calls < beat = omega arith in
     let after : from < beat = omega arith in
-    left_keeps fresh entries image (moments.later beat image after (subst (λ (d : Doubt). IsImage d image) (sym (doubt_now now.doubt now.calls beat later)) left))
+    moments.later beat image after (subst (λ (d : Doubt). IsImage d image) (sym (doubt_now now.doubt now.calls beat later)) left)
 
--- a crash leaves a home that rests
-pub keeps_rest : (home : HomeState) (now : DiskState) → IsLegal home.entries → IsHome home now → (image : List ℕ) → IsImage now.doubt image → Keeps home.entries image
-keeps_rest home now legal is image left = inl (record {
-  list = home.entries;
-  stands = ap list_of (settled_image now.seen image (subst (λ (d : Doubt). IsImage d image) is.rests left)) ∙ is.list;
-  legal = legal;
-  extends = ([], sym (append-nil home.entries));
-})
+-- what a crash may leave of what a journal has
+pub keeps_kept : (fresh : Type 0) (entries : List Entry) (begun : Option Turn) (now : DiskState) → HasKept entries now → (image : List ℕ) → IsImage now.doubt image → Keeps fresh entries begun image
+keeps_kept fresh entries begun now kept image left = leaves_none fresh entries (added_by entries begun) image (kept_image entries now image kept left)
+
+keeps_fresh : (fresh fresh_then : Type 0) (entries : List Entry) (entry : Option Entry) (image : List ℕ) → (fresh_then → fresh) → MayLeave fresh_then entries entry image → MayLeave fresh entries entry image
+keeps_fresh fresh fresh_then entries None image freshly left = left
+keeps_fresh fresh fresh_then entries (Some e) image freshly left = ⊎_elim
+    (λ (is : IsJournal entries image). inl is)
+    (λ (more : IsJournal (entries ++ e ∷ []) image ⊎ (fresh_then × (entries ≡ []) × (length image ≤ 9))). ⊎_elim
+    (λ (is : IsJournal (entries ++ e ∷ []) image). inr (inl is)) (λ (none : fresh_then × (entries ≡ []) × (length image ≤ 9)). inr (inr (freshly none.0, none.1, none.2))) more)
+    left
 
 cause_of : (told disk sink : Type 0) (entries : List Entry) (turn : Turn) (refused : Bool) (status : Status) → HasReason told disk sink entries (added entries turn.now (told_by turn.event)) status → HasCause told entries (Some turn) refused status
 cause_of told disk sink entries turn refused Done why = absurd why
@@ -88,11 +85,11 @@ between_cut P InputLimit h = absurd h
 between_cut P NoMemory h = tt
 
 -- the run was ended within the turn of what came to its end
-pub halted_one : (told disk clock sink rose : Type 0) (moment : ℕ) (entries : List Entry) (out out_now : List ℕ) (was : Bool) (now : ℕ) (event : Event) (wanted : Order) (disk_now : DiskState) (status : Status)
+pub halted_one : (fresh told disk clock sink rose : Type 0) (moment : ℕ) (entries : List Entry) (out out_now : List ℕ) (was : Bool) (now : ℕ) (event : Event) (wanted : Order) (disk_now : DiskState) (status : Status)
     → wanted ≡ told_by event → HasReason told disk rose entries (added entries now wanted) status → (sink → TookAtEnd status (reply_text (answer entries wanted)) out out_now)
-    → (clock → now ≡ moment) → (told → (image : List ℕ) → IsImage disk_now.doubt image → Keeps entries image)
-    → Halted told clock sink moment (standing entries out was) (event ∷ []) disk_now out_now status
-halted_one told disk clock sink rose moment entries out out_now was now event wanted disk_now status e why took at keeps =
+    → (clock → now ≡ moment) → (told → status ≡ SinkFault → HasKept (entries ++ option_to_list (added entries now wanted)) disk_now) → (told → (image : List ℕ) → IsImage disk_now.doubt image → MayLeave fresh entries (added entries now wanted) image)
+    → Halted fresh told clock sink moment (standing entries out was) (event ∷ []) disk_now out_now status
+halted_one fresh told disk clock sink rose moment entries out out_now was now event wanted disk_now status e why took at written keeps =
     let turn : Turn = record { now = now; event = event } in
     record {
       done = [];
@@ -106,13 +103,14 @@ halted_one told disk clock sink rose moment entries out out_now was now event wa
       cause = cause_of told disk rose entries turn was status (subst (λ (c : Order). HasReason told disk rose entries (added entries now c) status) e why);
       took = λ t. subst (λ (c : Order). TookAtEnd status (reply_text (answer entries c)) out out_now) e (took t);
       within = within_of told disk rose entries (added entries now wanted) status why;
-      keeps = keeps;
+      written = λ t is. subst (λ (c : Order). HasKept (entries ++ option_to_list (added entries now c)) disk_now) e (written t is);
+      keeps = λ t image left. subst (λ (c : Order). MayLeave fresh entries (added entries now c) image) e (keeps t image left);
     }
 
 -- memory ran out between two turns
-pub halted_none : (told clock sink : Type 0) (moment : ℕ) (entries : List Entry) (out : List ℕ) (was : Bool) (brought : List Event) (now : DiskState) → (told → (image : List ℕ) → IsImage now.doubt image → Keeps entries image)
-    → Halted told clock sink moment (standing entries out was) brought now out NoMemory
-halted_none told clock sink moment entries out was brought now keeps = record {
+pub halted_none : (fresh told clock sink : Type 0) (moment : ℕ) (entries : List Entry) (out : List ℕ) (was : Bool) (brought : List Event) (now : DiskState) → (told → HasKept entries now)
+    → Halted fresh told clock sink moment (standing entries out was) brought now out NoMemory
+halted_none fresh told clock sink moment entries out was brought now kept = record {
   done = [];
   middle = standing entries out was;
   turned = turned_none told clock sink moment (standing entries out was);
@@ -124,12 +122,13 @@ halted_none told clock sink moment entries out was brought now keeps = record {
   cause = tt;
   took = λ t. refl;
   within = tt;
-  keeps = keeps;
+  written = λ t is. absurd cc;
+  keeps = λ t image left. keeps_kept fresh entries None now (kept t) image left;
 }
 
-pub halted_since : (disk clock sink : Type 0) (moment first : ℕ) (before : Standing) (brought : List Event) (now : DiskState) (out : List ℕ) (status : Status) → (clock → moment ≡ first)
-    → Halted disk clock sink moment before brought now out status → Halted disk clock sink first before brought now out status
-halted_since disk clock sink moment first before brought now out status same h = record {
+pub halted_since : (fresh fresh_then disk clock sink : Type 0) (moment first : ℕ) (before : Standing) (brought : List Event) (now : DiskState) (out : List ℕ) (status : Status) → (disk → fresh_then → fresh) → (clock → moment ≡ first)
+    → Halted fresh_then disk clock sink moment before brought now out status → Halted fresh disk clock sink first before brought now out status
+halted_since fresh fresh_then disk clock sink moment first before brought now out status freshly same h = record {
   done = h.done;
   middle = h.middle;
   turned = turned_since disk clock sink moment first before h.middle h.done same h.turned;
@@ -141,7 +140,8 @@ halted_since disk clock sink moment first before brought now out status same h =
   cause = h.cause;
   took = h.took;
   within = h.within;
-  keeps = h.keeps;
+  written = h.written;
+  keeps = λ told image left. keeps_fresh fresh fresh_then h.middle.entries (added_by h.middle.entries h.begun) image (freshly told) (h.keeps told image left);
 }
 
 -- nothing came to its end
@@ -151,23 +151,23 @@ went_none disk clock sink moment entries out was brought none =
     (record { ends = refl; once = refl; turned = turned_none disk clock sink moment (standing entries out (was_refused was)) })
 
 -- a last turn was made
-pub closes_after : (disk clock sink : Type 0) (moment : ℕ) (before : Standing) (brought : List Event) (entries : List Entry) (now : DiskState) (out : List ℕ) (was : Last)
-    → HaveTurned disk clock sink moment before brought (standing entries out (was_refused was)) → Closes disk clock sink moment before brought entries now out (status_after was)
-closes_after disk clock sink moment before brought entries now out last.Done turned = turned
-closes_after disk clock sink moment before brought entries now out last.Refused turned = turned
+pub closes_after : (fresh disk clock sink : Type 0) (moment : ℕ) (before : Standing) (brought : List Event) (entries : List Entry) (now : DiskState) (out : List ℕ) (was : Last)
+    → HaveTurned disk clock sink moment before brought (standing entries out (was_refused was)) → Closes fresh disk clock sink moment before brought entries now out (status_after was)
+closes_after fresh disk clock sink moment before brought entries now out last.Done turned = turned
+closes_after fresh disk clock sink moment before brought entries now out last.Refused turned = turned
 
-pub closes_halted : (disk clock sink : Type 0) (moment : ℕ) (before : Standing) (brought : List Event) (entries : List Entry) (now : DiskState) (out : List ℕ) (status : Status)
-    → Halted disk clock sink moment before brought now out status → Closes disk clock sink moment before brought entries now out status
-closes_halted disk clock sink moment before brought entries now out Done h = absurd h.within
-closes_halted disk clock sink moment before brought entries now out Usage h = h
-closes_halted disk clock sink moment before brought entries now out Refused h = absurd h.within
-closes_halted disk clock sink moment before brought entries now out (Unfit at) h = h
-closes_halted disk clock sink moment before brought entries now out DiskFault h = h
-closes_halted disk clock sink moment before brought entries now out (JournalFull len) h = h
-closes_halted disk clock sink moment before brought entries now out SourceFault h = h
-closes_halted disk clock sink moment before brought entries now out SinkFault h = h
-closes_halted disk clock sink moment before brought entries now out InputLimit h = h
-closes_halted disk clock sink moment before brought entries now out NoMemory h = h
+pub closes_halted : (fresh disk clock sink : Type 0) (moment : ℕ) (before : Standing) (brought : List Event) (entries : List Entry) (now : DiskState) (out : List ℕ) (status : Status)
+    → Halted fresh disk clock sink moment before brought now out status → Closes fresh disk clock sink moment before brought entries now out status
+closes_halted fresh disk clock sink moment before brought entries now out Done h = absurd h.within
+closes_halted fresh disk clock sink moment before brought entries now out Usage h = h
+closes_halted fresh disk clock sink moment before brought entries now out Refused h = absurd h.within
+closes_halted fresh disk clock sink moment before brought entries now out (Unfit at) h = h
+closes_halted fresh disk clock sink moment before brought entries now out DiskFault h = h
+closes_halted fresh disk clock sink moment before brought entries now out (JournalFull len) h = h
+closes_halted fresh disk clock sink moment before brought entries now out SourceFault h = h
+closes_halted fresh disk clock sink moment before brought entries now out SinkFault h = h
+closes_halted fresh disk clock sink moment before brought entries now out InputLimit h = h
+closes_halted fresh disk clock sink moment before brought entries now out NoMemory h = h
 
 -- one event is done in any case
 pub once_single : (e : Event) → upto_first ends_run (e ∷ []) ≡ e ∷ []
@@ -202,23 +202,23 @@ between_both P Q R SinkFault step a b = tt
 between_both P Q R InputLimit step a b = step a b
 between_both P Q R NoMemory step a b = tt
 
-pub closes_since : (disk clock sink : Type 0) (moment first : ℕ) (before : Standing) (brought : List Event) (entries : List Entry) (now : DiskState) (out : List ℕ) (status : Status) → (clock → moment ≡ first)
-    → Closes disk clock sink moment before brought entries now out status → Closes disk clock sink first before brought entries now out status
-closes_since disk clock sink moment first before brought entries now out Done same h = turned_since disk clock sink moment first before (standing entries out false) brought same h
-closes_since disk clock sink moment first before brought entries now out Refused same h = turned_since disk clock sink moment first before (standing entries out true) brought same h
-closes_since disk clock sink moment first before brought entries now out Usage same h = halted_since disk clock sink moment first before brought now out Usage same h
-closes_since disk clock sink moment first before brought entries now out (Unfit at) same h = halted_since disk clock sink moment first before brought now out (Unfit at) same h
-closes_since disk clock sink moment first before brought entries now out DiskFault same h = halted_since disk clock sink moment first before brought now out DiskFault same h
-closes_since disk clock sink moment first before brought entries now out (JournalFull len) same h = halted_since disk clock sink moment first before brought now out (JournalFull len) same h
-closes_since disk clock sink moment first before brought entries now out SourceFault same h = halted_since disk clock sink moment first before brought now out SourceFault same h
-closes_since disk clock sink moment first before brought entries now out SinkFault same h = halted_since disk clock sink moment first before brought now out SinkFault same h
-closes_since disk clock sink moment first before brought entries now out InputLimit same h = halted_since disk clock sink moment first before brought now out InputLimit same h
-closes_since disk clock sink moment first before brought entries now out NoMemory same h = halted_since disk clock sink moment first before brought now out NoMemory same h
+pub closes_since : (fresh fresh_then disk clock sink : Type 0) (moment first : ℕ) (before : Standing) (brought : List Event) (entries : List Entry) (now : DiskState) (out : List ℕ) (status : Status) → (disk → fresh_then → fresh) → (clock → moment ≡ first)
+    → Closes fresh_then disk clock sink moment before brought entries now out status → Closes fresh disk clock sink first before brought entries now out status
+closes_since fresh fresh_then disk clock sink moment first before brought entries now out Done freshly same h = turned_since disk clock sink moment first before (standing entries out false) brought same h
+closes_since fresh fresh_then disk clock sink moment first before brought entries now out Refused freshly same h = turned_since disk clock sink moment first before (standing entries out true) brought same h
+closes_since fresh fresh_then disk clock sink moment first before brought entries now out Usage freshly same h = halted_since fresh fresh_then disk clock sink moment first before brought now out Usage freshly same h
+closes_since fresh fresh_then disk clock sink moment first before brought entries now out (Unfit at) freshly same h = halted_since fresh fresh_then disk clock sink moment first before brought now out (Unfit at) freshly same h
+closes_since fresh fresh_then disk clock sink moment first before brought entries now out DiskFault freshly same h = halted_since fresh fresh_then disk clock sink moment first before brought now out DiskFault freshly same h
+closes_since fresh fresh_then disk clock sink moment first before brought entries now out (JournalFull len) freshly same h = halted_since fresh fresh_then disk clock sink moment first before brought now out (JournalFull len) freshly same h
+closes_since fresh fresh_then disk clock sink moment first before brought entries now out SourceFault freshly same h = halted_since fresh fresh_then disk clock sink moment first before brought now out SourceFault freshly same h
+closes_since fresh fresh_then disk clock sink moment first before brought entries now out SinkFault freshly same h = halted_since fresh fresh_then disk clock sink moment first before brought now out SinkFault freshly same h
+closes_since fresh fresh_then disk clock sink moment first before brought entries now out InputLimit freshly same h = halted_since fresh fresh_then disk clock sink moment first before brought now out InputLimit freshly same h
+closes_since fresh fresh_then disk clock sink moment first before brought entries now out NoMemory freshly same h = halted_since fresh fresh_then disk clock sink moment first before brought now out NoMemory freshly same h
 
-pub finishes_since : (disk clock sink : Type 0) (moment first : ℕ) (before : Standing) (was : DiskState) (brought : List Event) (if_none : Status) (entries : List Entry) (now : DiskState) (out : List ℕ) (status : Status) → (clock → moment ≡ first)
-    → Finishes disk clock sink moment before was brought if_none entries now out status → Finishes disk clock sink first before was brought if_none entries now out status
-finishes_since disk clock sink moment first before was [] if_none entries now out status same h = h
-finishes_since disk clock sink moment first before was (e ∷ es) if_none entries now out status same h = closes_since disk clock sink moment first before (e ∷ es) entries now out status same h
+pub finishes_since : (fresh fresh_then disk clock sink : Type 0) (moment first : ℕ) (before : Standing) (was : DiskState) (brought : List Event) (if_none : Status) (entries : List Entry) (now : DiskState) (out : List ℕ) (status : Status) → (disk → fresh_then → fresh) → (clock → moment ≡ first)
+    → Finishes fresh_then disk clock sink moment before was brought if_none entries now out status → Finishes fresh disk clock sink first before was brought if_none entries now out status
+finishes_since fresh fresh_then disk clock sink moment first before was [] if_none entries now out status freshly same h = h
+finishes_since fresh fresh_then disk clock sink moment first before was (e ∷ es) if_none entries now out status freshly same h = closes_since fresh fresh_then disk clock sink moment first before (e ∷ es) entries now out status freshly same h
 
 pub went_since : (disk clock sink : Type 0) (moment first : ℕ) (before : Standing) (brought : List Event) (entries : List Entry) (out : List ℕ) (flow : Flow) → (clock → moment ≡ first)
     → Went disk clock sink moment before brought entries out flow → Went disk clock sink first before brought entries out flow
@@ -226,4 +226,20 @@ went_since disk clock sink moment first before brought entries out flow same h =
   ends = h.ends;
   once = h.once;
   turned = turned_since disk clock sink moment first before (standing entries out (was_refused (last_in flow))) brought same h.turned;
+}
+
+-- that the journal had no bytes is said of the run's begin
+pub ran_fresh : (fresh fresh_then disk clock source sink : Type 0) (moment : ℕ) (entries : List Entry) (out input rest : List ℕ) (now : DiskState) (out_now : List ℕ) (status : Status) → (disk → fresh_then → fresh)
+    → Ran fresh_then disk clock source sink moment entries out input rest now out_now status → Ran fresh disk clock source sink moment entries out input rest now out_now status
+ran_fresh fresh fresh_then disk clock source sink moment entries out input rest now out_now status freshly r = record {
+  turns = r.turns;
+  begun = r.begun;
+  moments = r.moments;
+  events = r.events;
+  fits = r.fits;
+  cause = r.cause;
+  output = r.output;
+  stands = r.stands;
+  written = r.written;
+  keeps = λ told image left. keeps_fresh fresh fresh_then (after_turns entries r.turns) (added_by (after_turns entries r.turns) r.begun) image (freshly told) (r.keeps told image left);
 }

@@ -6,12 +6,11 @@ use Rattle.std.proofs.lemmas.List.{append-nil}
 use Rattle.std.proofs.lemmas.List.Elements.{All-append, All-nil}
 use Rattle.std.proofs.lemmas.List.Folds.{list_any-append}
 use Rattle.cd_outside.specs.Disk.{DiskState}
-use Rattle.cd_outside.specs.Doubt.{IsImage}
 use Rattle.cd_entries.specs.declared.entry.Entry.{Entry}
 use Rattle.cd_input.specs.Input.{Scan, Event, TooLong, Unfinished, scan_after, begin, events, scanned, is_rest, is_full, end_events, limit_events, all_events, upto_first}
 use Rattle.cd_input.proofs.Events.{events_next, scanned_next, PassNone, none_then, upto_then, upto_none, upto_one, all_begin, all_ended, all_cut}
 use Rattle.cd_turn.specs.Ends.{TookAtEnd}
-use Rattle.cd_turn.specs.Home.{StandsFor}
+use Rattle.cd_turn.specs.Home.{HasKept}
 use Rattle.cd_turn.specs.Turn.{Turn, after_turns, replies}
 use Rattle.cd_turn.specs.declared.status.Status.{Status}
 use Rattle.cd_turn.specs.declared.status.Status.TheVariants.{Done, Usage, Refused, Unfit, SourceFault, DiskFault, SinkFault, InputLimit, JournalFull, NoMemory}
@@ -20,8 +19,8 @@ use Rattle.cd_cli.specs.declared.flow.Last.TheVariants as last
 use Rattle.cd_cli.specs.Flow.{was_refused, status_after}
 use Rattle.cd_cli.specs.Run.{most_input, ends_run, run_events, texts, refused_after, line_of, HasCause, DidOf, Keeps, IfBetween, Ran}
 use Rattle.cd_cli.specs.Stretch.{Standing, standing, HaveTurned, Halted, Closes, Finishes}
-use Rattle.cd_cli.proofs.Halting.{between_cut}
-use Rattle.cd_cli.proofs.Turning.{turned_then, turned_none}
+use Rattle.cd_cli.proofs.Halting.{between_cut, between_any, keeps_kept}
+use Rattle.cd_cli.proofs.Turning.{turns_then, turned_then, turned_none}
 
 abbrev event_in : Turn → Event
 event_in turn = turn.event
@@ -90,13 +89,13 @@ run_halts all xs ys tail done more begun is none split none_done =
           ∙ sym (append_assoc xs done (b ++ last.0)),
     )
 
-module _ (disk clock source sink : Type 0) (moment : ℕ) (entries : List Entry) (out input : List ℕ) where
+module _ (fresh disk clock source sink : Type 0) (moment : ℕ) (entries : List Entry) (out input : List ℕ) where
   -- a run that was ended between two turns
   pub ran_turned : (rest : List ℕ) (done : List Event) (after : Standing) (now : DiskState) (out_now : List ℕ) (status : Status) → HaveTurned disk clock sink moment (standing entries out false) done after
       → (source → DidOf input rest done [] status) → HasCause disk after.entries None after.refused status → (sink → TookAtEnd status [] after.out out_now)
-      → (disk → IfBetween status (StandsFor now.seen after.entries)) → (disk → (image : List ℕ) → IsImage now.doubt image → Keeps after.entries image)
-      → Ran disk clock source sink moment entries out input rest now out_now status
-  ran_turned rest done after now out_now status t did cause took stands keeps = record {
+      → (status ≡ SinkFault → ⊥) → (disk → HasKept after.entries now)
+      → Ran fresh disk clock source sink moment entries out input rest now out_now status
+  ran_turned rest done after now out_now status t did cause took never kept = record {
     turns = t.turns;
     begun = None;
     moments = λ told. All-append (λ (turn : Turn). turn.now ≡ moment) t.turns [] (t.moments_are told) (All-nil (λ (turn : Turn). turn.now ≡ moment));
@@ -104,15 +103,16 @@ module _ (disk clock source sink : Type 0) (moment : ℕ) (entries : List Entry)
     fits = t.fits;
     cause = subst (λ (es : List Entry). HasCause disk es None (refused_after false (replies entries t.turns)) status) t.entries_are (subst (λ (r : Bool). HasCause disk after.entries None r status) t.refused_is cause);
     output = λ told. subst (λ (o : List ℕ). TookAtEnd status [] o out_now) (t.out_is told) (took told);
-    stands = λ told. subst (λ (es : List Entry). IfBetween status (StandsFor now.seen es)) t.entries_are (stands told);
-    keeps = λ told image left. subst (λ (es : List Entry). Keeps es image) t.entries_are (keeps told image left);
+    stands = λ told. between_any (HasKept (after_turns entries t.turns) now) status (subst (λ (es : List Entry). HasKept es now) t.entries_are (kept told));
+    written = λ told is. absurd (never is);
+    keeps = λ told image left. keeps_kept fresh (after_turns entries t.turns) None now (subst (λ (es : List Entry). HasKept es now) t.entries_are (kept told)) image left;
   }
 
   -- a run that was ended within a stretch
   pub ran_halted : (rest : List ℕ) (xs ys : List Event) (at : Standing) (now : DiskState) (out_now : List ℕ) (status : Status) → HaveTurned disk clock sink moment (standing entries out false) xs at
-      → (h : Halted disk clock sink moment at ys now out_now status)
+      → (h : Halted fresh disk clock sink moment at ys now out_now status)
       → (source → (more : List Event) × (run_events input ≡ (xs ++ h.done) ++ (map (λ turn. turn.event) (option_to_list h.begun) ++ more)))
-      → Ran disk clock source sink moment entries out input rest now out_now status
+      → Ran fresh disk clock source sink moment entries out input rest now out_now status
   ran_halted rest xs ys at now out_now status one h did =
       let t = turned_then disk clock sink moment (standing entries out false) at h.middle xs h.done one h.turned in
       let b : List Event = map event_in (option_to_list h.begun) in
@@ -126,8 +126,9 @@ module _ (disk clock source sink : Type 0) (moment : ℕ) (entries : List Entry)
         output = λ told.
             subst (λ (es : List Entry). TookAtEnd status (line_of es h.begun) (out ++ texts (replies entries t.turns)) out_now) t.entries_are
             (subst (λ (o : List ℕ). TookAtEnd status (line_of h.middle.entries h.begun) o out_now) (t.out_is told) (h.took told));
-        stands = λ told. between_cut (StandsFor now.seen (after_turns entries t.turns)) status h.within;
-        keeps = λ told image left. subst (λ (es : List Entry). Keeps es image) t.entries_are (h.keeps told image left);
+        stands = λ told. between_cut (HasKept (after_turns entries t.turns) now) status h.within;
+        written = λ told is. subst (λ (es : List Entry). HasKept es now) (ap (λ (es : List Entry). after_turns es (option_to_list h.begun)) t.entries_are ∙ sym (turns_then entries t.turns (option_to_list h.begun))) (h.written told is);
+        keeps = λ told image left. subst (λ (es : List Entry). Keeps fresh es h.begun image) t.entries_are (h.keeps told image left);
       }
 
   -- What was left to do at the input's end, or at its limit, was done.
@@ -136,39 +137,39 @@ module _ (disk clock source sink : Type 0) (moment : ℕ) (entries : List Entry)
     EndsWell done = (list_any ends_run done ≡ true) ⊎ (length input ≤ most_input)
 
     abbrev Came : Status → Type 0
-    Came status = Ran disk clock source sink moment entries out input rest now out_now status
+    Came status = Ran fresh disk clock source sink moment entries out input rest now out_now status
 
-    halted_more : (brought : List Event) (status : Status) → Halted disk clock sink moment at brought now out_now status → (source → run_events input ≡ xs ++ brought) → Came status
+    halted_more : (brought : List Event) (status : Status) → Halted fresh disk clock sink moment at brought now out_now status → (source → run_events input ≡ xs ++ brought) → Came status
     halted_more brought status h all = ran_halted rest xs brought at now out_now status one h
         (λ told. (h.more, all told ∙ ap (λ (l : List Event). xs ++ l) h.brought_is ∙ sym (append_assoc xs h.done (map event_in (option_to_list h.begun) ++ h.more))))
 
     turned_more : (brought : List Event) (was : Bool) (status : Status) → HaveTurned disk clock sink moment at brought (standing later out_now was) → (source → DidOf input rest (xs ++ brought) [] status) → HasCause disk later None was status
-        → TookAtEnd status [] out_now out_now → (disk → IfBetween status (StandsFor now.seen later)) → (disk → (image : List ℕ) → IsImage now.doubt image → Keeps later image) → Came status
-    turned_more brought was status more did cause took stands keeps =
+        → TookAtEnd status [] out_now out_now → (status ≡ SinkFault → ⊥) → (disk → HasKept later now) → Came status
+    turned_more brought was status more did cause took never kept =
         ran_turned rest (xs ++ brought) (standing later out_now was) now out_now status
-        (turned_then disk clock sink moment (standing entries out false) at (standing later out_now was) xs brought one more) did cause (λ told. took) stands keeps
+        (turned_then disk clock sink moment (standing entries out false) at (standing later out_now was) xs brought one more) did cause (λ told. took) never kept
 
-    pub closes_ran : (brought : List Event) (status : Status) → Closes disk clock sink moment at brought later now out_now status → (source → run_events input ≡ xs ++ brought) → (source → EndsWell (xs ++ brought))
-        → (disk → IfBetween status (StandsFor now.seen later)) → (disk → IfBetween status ((image : List ℕ) → IsImage now.doubt image → Keeps later image)) → Came status
-    closes_ran brought Done closes all ends stands keeps = turned_more brought false Done closes (λ told. (sym (all told), ends told)) (refl, refl) refl stands keeps
-    closes_ran brought Refused closes all ends stands keeps = turned_more brought true Refused closes (λ told. (sym (all told), ends told)) (refl, refl) refl stands keeps
-    closes_ran brought Usage closes all ends stands keeps = halted_more brought Usage closes all
-    closes_ran brought (Unfit place) closes all ends stands keeps = halted_more brought (Unfit place) closes all
-    closes_ran brought DiskFault closes all ends stands keeps = halted_more brought DiskFault closes all
-    closes_ran brought (JournalFull len) closes all ends stands keeps = halted_more brought (JournalFull len) closes all
-    closes_ran brought SourceFault closes all ends stands keeps = halted_more brought SourceFault closes all
-    closes_ran brought SinkFault closes all ends stands keeps = halted_more brought SinkFault closes all
-    closes_ran brought InputLimit closes all ends stands keeps = halted_more brought InputLimit closes all
-    closes_ran brought NoMemory closes all ends stands keeps = halted_more brought NoMemory closes all
+    pub closes_ran : (brought : List Event) (status : Status) → Closes fresh disk clock sink moment at brought later now out_now status → (source → run_events input ≡ xs ++ brought) → (source → EndsWell (xs ++ brought))
+        → (disk → IfBetween status (HasKept later now)) → Came status
+    closes_ran brought Done closes all ends kept = turned_more brought false Done closes (λ told. (sym (all told), ends told)) (refl, refl) refl (λ is. absurd cc) kept
+    closes_ran brought Refused closes all ends kept = turned_more brought true Refused closes (λ told. (sym (all told), ends told)) (refl, refl) refl (λ is. absurd cc) kept
+    closes_ran brought Usage closes all ends kept = halted_more brought Usage closes all
+    closes_ran brought (Unfit place) closes all ends kept = halted_more brought (Unfit place) closes all
+    closes_ran brought DiskFault closes all ends kept = halted_more brought DiskFault closes all
+    closes_ran brought (JournalFull len) closes all ends kept = halted_more brought (JournalFull len) closes all
+    closes_ran brought SourceFault closes all ends kept = halted_more brought SourceFault closes all
+    closes_ran brought SinkFault closes all ends kept = halted_more brought SinkFault closes all
+    closes_ran brought InputLimit closes all ends kept = halted_more brought InputLimit closes all
+    closes_ran brought NoMemory closes all ends kept = halted_more brought NoMemory closes all
 
   -- nothing more was done
-  module _ (rest : List ℕ) (xs : List Event) (at : Standing) (now : DiskState) (one : HaveTurned disk clock sink moment (standing entries out false) xs at) (stands : disk → StandsFor now.seen at.entries) (keeps : disk → (image : List ℕ) → IsImage now.doubt image → Keeps at.entries image) where
-    pub ran_source : (source → (read : List ℕ) × (input ≡ read ++ rest) × (xs ≡ events begin read) × (list_any ends_run xs ≡ false)) → Ran disk clock source sink moment entries out input rest now at.out SourceFault
-    ran_source did = ran_turned rest xs at now at.out SourceFault one did refl (λ told. refl) stands keeps
+  module _ (rest : List ℕ) (xs : List Event) (at : Standing) (now : DiskState) (one : HaveTurned disk clock sink moment (standing entries out false) xs at) (kept : disk → HasKept at.entries now) where
+    pub ran_source : (source → (read : List ℕ) × (input ≡ read ++ rest) × (length read ≤ most_input) × (xs ≡ events begin read) × (list_any ends_run xs ≡ false)) → Ran fresh disk clock source sink moment entries out input rest now at.out SourceFault
+    ran_source did = ran_turned rest xs at now at.out SourceFault one did refl (λ told. refl) (λ is. absurd cc) kept
 
-    pub ran_limit : (source → (xs ≡ run_events input) × (list_any ends_run xs ≡ false) × (most_input < length input)) → Ran disk clock source sink moment entries out input rest now at.out InputLimit
-    ran_limit did = ran_turned rest xs at now at.out InputLimit one did refl (λ told. refl) stands keeps
+    pub ran_limit : (source → (xs ≡ run_events input) × (list_any ends_run xs ≡ false) × (most_input < length input)) → Ran fresh disk clock source sink moment entries out input rest now at.out InputLimit
+    ran_limit did = ran_turned rest xs at now at.out InputLimit one did refl (λ told. refl) (λ is. absurd cc) kept
 
-    pub ran_ended : (was : Last) → at.refused ≡ was_refused was → (source → (xs ≡ run_events input) × ((list_any ends_run xs ≡ true) ⊎ (length input ≤ most_input))) → Ran disk clock source sink moment entries out input rest now at.out (status_after was)
-    ran_ended last.Done is did = ran_turned rest xs at now at.out Done one did (refl, is) (λ told. refl) stands keeps
-    ran_ended last.Refused is did = ran_turned rest xs at now at.out Refused one did (refl, is) (λ told. refl) stands keeps
+    pub ran_ended : (was : Last) → at.refused ≡ was_refused was → (source → (xs ≡ run_events input) × ((list_any ends_run xs ≡ true) ⊎ (length input ≤ most_input))) → Ran fresh disk clock source sink moment entries out input rest now at.out (status_after was)
+    ran_ended last.Done is did = ran_turned rest xs at now at.out Done one did (refl, is) (λ told. refl) (λ is. absurd cc) kept
+    ran_ended last.Refused is did = ran_turned rest xs at now at.out Refused one did (refl, is) (λ told. refl) (λ is. absurd cc) kept

@@ -21,7 +21,7 @@ use Rattle.cd_cli.specs.Flow.{ends_by}
 use Rattle.cd_cli.specs.Run.{is_stop, ends_run, texts, refused_after, EachFits}
 use Rattle.cd_cli.specs.Stretch.{Standing, standing, HaveTurned}
 
-turns_then : (entries : List Entry) (one two : List Turn) → after_turns entries (one ++ two) ≡ after_turns (after_turns entries one) two
+pub turns_then : (entries : List Entry) (one two : List Turn) → after_turns entries (one ++ two) ≡ after_turns (after_turns entries one) two
 turns_then entries [] two = refl
 turns_then entries (turn ∷ one) two = turns_then (after_turn entries turn) one two
 

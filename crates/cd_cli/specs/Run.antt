@@ -1,14 +1,13 @@
 -- What a run of the node comes to.
 use Rattle.std.specs.Prelude.{◌≡◌, ◌⊎◌, ℕ, ◌<◌, ◌≤◌, List, [], ◌∷◌, ◌++◌, length, map, All, Bool, true, false, Option, Some, None, option_to_list}
 use Rattle.std.specs.List.{flat_map, list_any}
-use Rattle.cd_outside.specs.Disk.{DiskState, last_of, LeftAt}
+use Rattle.cd_outside.specs.Disk.{DiskState, last_of}
 use Rattle.cd_outside.specs.Doubt.{IsImage}
-use Rattle.cd_outside.specs.Moments.{Moments}
 use Rattle.cd_outside.specs.Streams.{TookFront}
 use Rattle.cd_entries.specs.declared.entry.Entry.{Entry}
 use Rattle.cd_input.specs.Input.{Event, Whole, TooLong, Unfinished, begin, events, all_events, upto_first}
 use Rattle.cd_turn.specs.Ends.{MayLeave, FitsBehind, IsFull, TookAtEnd}
-use Rattle.cd_turn.specs.Home.{HomeState, IsHome, StandsFor, KeepsEntries}
+use Rattle.cd_turn.specs.Home.{HomeState, IsHome, StandsFor, IsJournal, HasKept}
 use Rattle.cd_turn.specs.Legal.{IsLegal, Extends}
 use Rattle.cd_turn.specs.Order.{told_by}
 use Rattle.cd_turn.specs.declared.order.Order.{Order}
@@ -83,18 +82,28 @@ HasCause disk entries begun refused NoMemory = Unit {0}
 -- What a run with this status did of its input: it did these events, and begun was under way; rest was not read. A run that
 -- came to its end did all that it should, and one of them ended it or the input came to its end. Where the input goes on behind
 -- the bytes that are read at most, it did all in them, and none ended it. Where the input failed, it did all that came to its
--- end in the bytes that were read. Else it did the first of what it should.
+-- end in the bytes that were read, which aren't more than that. Else it did the first of what it should.
 abbrev pub DidOf : List ℕ → List ℕ → List Event → List Event → Status → Type 0
 DidOf input rest done begun Done = (done ≡ run_events input) × ((list_any ends_run done ≡ true) ⊎ (length input ≤ most_input))
 DidOf input rest done begun Refused = (done ≡ run_events input) × ((list_any ends_run done ≡ true) ⊎ (length input ≤ most_input))
 DidOf input rest done begun InputLimit = (done ≡ run_events input) × (list_any ends_run done ≡ false) × (most_input < length input)
-DidOf input rest done begun SourceFault = (read : List ℕ) × (input ≡ read ++ rest) × (done ≡ events begin read) × (list_any ends_run done ≡ false)
+DidOf input rest done begun SourceFault = (read : List ℕ) × (input ≡ read ++ rest) × (length read ≤ most_input) × (done ≡ events begin read) × (list_any ends_run done ≡ false)
 DidOf input rest done begun _ = (more : List Event) × (run_events input ≡ done ++ (begun ++ more))
 
--- the journal's bytes that a crash may leave: a legal list that has these entries at its front, or up to nine bytes of any kind
--- where there are none
-abbrev pub Keeps : List Entry → List ℕ → Type 0
-Keeps entries image = KeepsEntries entries image ⊎ ((entries ≡ []) × (length image ≤ 9))
+-- what this turn adds to these entries; without a turn nothing
+abbrev pub added_by : List Entry → Option Turn → Option Entry
+added_by entries None = None
+added_by entries (Some turn) = added entries turn.now (told_by turn.event)
+
+-- The journal's bytes that a crash may leave behind turns that led to these entries: those of the entries; where a turn is under
+-- way, those of the entries with what it adds too.
+abbrev pub Keeps : Type 0 → List Entry → Option Turn → List ℕ → Type 0
+Keeps fresh entries begun image = MayLeave fresh entries (added_by entries begun) image
+
+-- the turns of whose replies the output took something: where it failed, also the one that was under way
+abbrev pub told_turns : Status → List Turn → Option Turn → List Turn
+told_turns SinkFault turns begun = turns ++ option_to_list begun
+told_turns _ turns begun = turns
 
 -- this holds where the run ended between two turns
 abbrev pub IfBetween : Status → Type 0 → Type 0
@@ -104,8 +113,9 @@ IfBetween SourceFault holds = holds
 IfBetween InputLimit holds = holds
 IfBetween _ holds = Unit {0}
 
--- What a run of a home with these entries did, from its devices before to its devices now; the types say which of them tell.
-pub record Ran (disk clock source sink : Type 0) (moment : ℕ) (entries : List Entry) (out input rest : List ℕ) (now : DiskState) (out_now : List ℕ) (status : Status) : Type 0 where
+-- What a run of a home with these entries did, from its devices before to its devices now; the types say which of them tell, and
+-- fresh that the journal had no bytes before.
+pub record Ran (fresh disk clock source sink : Type 0) (moment : ℕ) (entries : List Entry) (out input rest : List ℕ) (now : DiskState) (out_now : List ℕ) (status : Status) : Type 0 where
   -- the turns that were made, and the one that was under way at the end, if any
   pub turns : List Turn
   pub begun : Option Turn
@@ -118,10 +128,12 @@ pub record Ran (disk clock source sink : Type 0) (moment : ℕ) (entries : List 
   -- the output took the line of each reply, in order, and of the turn that was under way a front of its line where the output
   -- failed, and else nothing
   pub output : sink → TookAtEnd status (line_of (after_turns entries turns) begun) (out ++ texts (replies entries turns)) out_now
-  -- the journal has the entries after the turns
-  pub stands : disk → IfBetween status (StandsFor now.seen (after_turns entries turns))
-  -- and a crash from now on leaves them
-  pub keeps : disk → (image : List ℕ) → IsImage now.doubt image → Keeps (after_turns entries turns) image
+  -- the journal has the entries after the turns, and a crash leaves just them
+  pub stands : disk → IfBetween status (HasKept (after_turns entries turns) now)
+  -- where the output failed, it has what the turn under way adds too
+  pub written : disk → status ≡ SinkFault → HasKept (after_turns entries (turns ++ option_to_list begun)) now
+  -- and else a crash from now on leaves them, or them with what the turn under way adds
+  pub keeps : disk → (image : List ℕ) → IsImage now.doubt image → Keeps fresh (after_turns entries turns) begun image
 
 -- The output took this line; where it failed, a front of it.
 abbrev pub TookLine : Type 0 → List ℕ → List ℕ → List ℕ → Type 0
@@ -146,9 +158,9 @@ pub record Opened (disk clock source sink : Type 0) (moment : ℕ) (before now :
   pub entries : List Entry
   pub stood : disk → StandsFor before.seen entries
   pub legal : IsLegal entries
-  pub ran : Ran disk clock source sink moment entries out input rest now out_now status
+  pub ran : Ran (before.seen ≡ []) disk clock source sink moment entries out input rest now out_now status
   -- each number that a reply told is that of a submission in each journal that a crash may leave from now on
-  pub acknowledged : disk → (n : ℕ) (image : List ℕ) → list_any (tells n) (replies entries ran.turns) ≡ true → IsImage now.doubt image → KeepsNumber n image
+  pub acknowledged : disk → (n : ℕ) (image : List ℕ) → list_any (tells n) (replies entries (told_turns status ran.turns ran.begun)) ≡ true → IsImage now.doubt image → KeepsNumber n image
 
 -- a run, up to its last line
 abbrev pub Came : (disk clock source sink : Type 0) → ℕ → DiskState → DiskState → List ℕ → List ℕ → List ℕ → List ℕ → Status → Type 0
@@ -171,17 +183,29 @@ EndedBy disk unfit source sink SourceFault = source
 EndedBy disk unfit source sink SinkFault = sink
 EndedBy disk unfit source sink _ = Unit {0}
 
--- A home and its disk have gone on: the home is that of the disk, and has the entries from before at the front of its own;
--- at any moment a crash leaves what it may.
+-- A home and its disk have gone on: the home is that of the disk, and has the entries from before at the front of its own.
 pub record GoneOn (entries : List Entry) (before : DiskState) (from : ℕ) (home : HomeState) (now : DiskState) (beat : ℕ) : Type 0 where
   pub is : IsHome home now
   pub fresh : now.seen ≡ [] → before.seen ≡ []
   pub extends : Extends entries home.entries
-  pub moments : Moments (LeftAt before) (LeftAt now) from (MayLeave (before.seen ≡ []) entries)
   pub order : last_of now.calls ≤ beat
   pub forward : from ≤ beat
 
+-- The journal's bytes are those of these entries and of what turns add behind them. The turns are those of the first of these
+-- events, in order, each at the clock's moment; the types say which of the devices tell.
+pub record LeftByTurns (clock source : Type 0) (moment : ℕ) (entries : List Entry) (brought : List Event) (image : List ℕ) : Type 0 where
+  pub turns : List Turn
+  pub events : source → (more : List Event) × (brought ≡ map (λ turn. turn.event) turns ++ more)
+  pub moments : clock → All (λ turn. turn.now ≡ moment) turns
+  pub journal : IsJournal (after_turns entries turns) image
+
+-- What a crash may leave while turns of these events are made, one after the other: what the first of them led to; and where
+-- there was no journal yet, up to nine bytes of any kind.
+abbrev pub TurnsMayLeave : (fresh clock source : Type 0) → ℕ → List Entry → List Event → List ℕ → Type 0
+TurnsMayLeave fresh clock source moment entries brought image = LeftByTurns clock source moment entries brought image ⊎ (fresh × (entries ≡ []) × (length image ≤ 9))
+
 -- What a crash may leave at any moment of a run: what it might have left before, which the opening only syncs; or what it may
--- leave of a home that had the entries of the journal's bytes at the begin.
-abbrev pub RunMayLeave : DiskState → List ℕ → Type 0
-RunMayLeave before image = IsImage before.doubt image ⊎ ((entries : List Entry) × StandsFor before.seen entries × MayLeave (before.seen ≡ []) entries image)
+-- leave while turns of the input's events are made on the entries of the journal's bytes at the begin.
+abbrev pub RunMayLeave : (clock source : Type 0) → ℕ → List ℕ → DiskState → List ℕ → Type 0
+RunMayLeave clock source moment input before image =
+    IsImage before.doubt image ⊎ ((entries : List Entry) × StandsFor before.seen entries × TurnsMayLeave (before.seen ≡ []) clock source moment entries (run_events input) image)

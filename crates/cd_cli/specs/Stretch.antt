@@ -6,6 +6,7 @@ use Rattle.cd_outside.specs.Doubt.{IsImage}
 use Rattle.cd_entries.specs.declared.entry.Entry.{Entry}
 use Rattle.cd_input.specs.Input.{Event, upto_first}
 use Rattle.cd_turn.specs.Ends.{TookAtEnd}
+use Rattle.cd_turn.specs.Home.{HasKept}
 use Rattle.cd_turn.specs.Turn.{Turn, after_turns, replies}
 use Rattle.cd_turn.specs.declared.status.Status.{Status}
 use Rattle.cd_turn.specs.declared.status.Status.TheVariants.{Done, Usage, Refused, Unfit, SourceFault, DiskFault, SinkFault, InputLimit, JournalFull, NoMemory}
@@ -33,7 +34,7 @@ pub record HaveTurned (disk clock sink : Type 0) (moment : ℕ) (before : Standi
   pub fits : disk → EachFits before.entries turns
 
 -- Turns of some of these events were made, in order, and then the run was ended, maybe within the next turn.
-pub record Halted (disk clock sink : Type 0) (moment : ℕ) (before : Standing) (brought : List Event) (now : DiskState) (out : List ℕ) (status : Status) : Type 0 where
+pub record Halted (fresh disk clock sink : Type 0) (moment : ℕ) (before : Standing) (brought : List Event) (now : DiskState) (out : List ℕ) (status : Status) : Type 0 where
   pub done : List Event
   pub middle : Standing
   pub turned : HaveTurned disk clock sink moment before done middle
@@ -45,7 +46,8 @@ pub record Halted (disk clock sink : Type 0) (moment : ℕ) (before : Standing) 
   pub cause : HasCause disk middle.entries begun middle.refused status
   pub took : sink → TookAtEnd status (line_of middle.entries begun) middle.out out
   pub within : IfBetween status ⊥
-  pub keeps : disk → (image : List ℕ) → IsImage now.doubt image → Keeps middle.entries image
+  pub written : disk → status ≡ SinkFault → HasKept (after_turns middle.entries (option_to_list begun)) now
+  pub keeps : disk → (image : List ℕ) → IsImage now.doubt image → Keeps fresh middle.entries begun image
 
 -- all of these were done, and the run goes on unless one of them ends it
 pub record Went (disk clock sink : Type 0) (moment : ℕ) (before : Standing) (brought : List Event) (entries : List Entry) (out : List ℕ) (flow : Flow) : Type 0 where
@@ -54,12 +56,12 @@ pub record Went (disk clock sink : Type 0) (moment : ℕ) (before : Standing) (b
   pub turned : HaveTurned disk clock sink moment before brought (standing entries out (was_refused (last_in flow)))
 
 -- these were all that was left to do
-abbrev pub Closes : (disk clock sink : Type 0) → ℕ → Standing → List Event → List Entry → DiskState → List ℕ → Status → Type 0
-Closes disk clock sink moment before brought entries now out Done = HaveTurned disk clock sink moment before brought (standing entries out false)
-Closes disk clock sink moment before brought entries now out Refused = HaveTurned disk clock sink moment before brought (standing entries out true)
-Closes disk clock sink moment before brought entries now out status = Halted disk clock sink moment before brought now out status
+abbrev pub Closes : (fresh disk clock sink : Type 0) → ℕ → Standing → List Event → List Entry → DiskState → List ℕ → Status → Type 0
+Closes fresh disk clock sink moment before brought entries now out Done = HaveTurned disk clock sink moment before brought (standing entries out false)
+Closes fresh disk clock sink moment before brought entries now out Refused = HaveTurned disk clock sink moment before brought (standing entries out true)
+Closes fresh disk clock sink moment before brought entries now out status = Halted fresh disk clock sink moment before brought now out status
 
 -- What is left to do is none or one of these: where there is none, nothing was done and this status was given.
-abbrev pub Finishes : (disk clock sink : Type 0) → ℕ → Standing → DiskState → List Event → Status → List Entry → DiskState → List ℕ → Status → Type 0
-Finishes disk clock sink moment before was [] if_none entries now out status = (status ≡ if_none) × (entries ≡ before.entries) × (out ≡ before.out) × (now ≡ was)
-Finishes disk clock sink moment before was (event ∷ more) if_none entries now out status = Closes disk clock sink moment before (event ∷ more) entries now out status
+abbrev pub Finishes : (fresh disk clock sink : Type 0) → ℕ → Standing → DiskState → List Event → Status → List Entry → DiskState → List ℕ → Status → Type 0
+Finishes fresh disk clock sink moment before was [] if_none entries now out status = (status ≡ if_none) × (entries ≡ before.entries) × (out ≡ before.out) × (now ≡ was)
+Finishes fresh disk clock sink moment before was (event ∷ more) if_none entries now out status = Closes fresh disk clock sink moment before (event ∷ more) entries now out status

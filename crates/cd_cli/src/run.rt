@@ -6,14 +6,13 @@ ghost use Rattle.cd_outside.specs.Moments.{Moments};
 ghost use Rattle.cd_entries.specs.declared.entry.Entry.{Entry};
 ghost use Rattle.cd_input.specs.Input.{scan_after, end_events, limit_events, begin};
 ghost use Rattle.cd_input.specs.Scanner.{event_of, events_of};
-ghost use Rattle.cd_turn.specs.Ends.{MayLeave};
 ghost use Rattle.cd_turn.specs.Home.{StandsFor, IsHome, IsFit, IsUnfit};
 ghost use Rattle.cd_turn.specs.Legal.{IsLegal};
 ghost use Rattle.cd_turn.specs.Status.{last_line};
 ghost use Rattle.cd_turn.specs.Order.{told_by};
 ghost use Rattle.cd_cli.specs.Flow.{was_refused};
 ghost use Rattle.cd_cli.specs.Complete.{turns_at, Completes, TurnsAway};
-ghost use Rattle.cd_cli.specs.Run.{most_input, run_events, EachFits, EndedBy, GoneOn, RunMayLeave, TookLine, IfBetween, Ran, Came, Served};
+ghost use Rattle.cd_cli.specs.Run.{most_input, run_events, EachFits, EndedBy, GoneOn, TurnsMayLeave, RunMayLeave, TookLine, IfBetween, Ran, Came, Served};
 ghost use Rattle.cd_cli.specs.Stretch.{standing, HaveTurned, Halted, Went, Finishes};
 
 use crate::flow::{Flow, Last, flow_of};
@@ -29,7 +28,7 @@ use std::alloc::Global;
 const MAX_INPUT: usize = 16_777_216;
 
 // Does what came to its end.
-#[tactic(auto, using(cd_turn::proofs::Homes::rests_moments))]
+#[tactic(auto, using(crate::proofs::Leaving::rests_turns))]
 fn found_turn<P: Disk, C: Clock, O: Sink>(
     alloc: Global,
     home: &mut Home,
@@ -45,12 +44,13 @@ fn found_turn<P: Disk, C: Clock, O: Sink>(
     requires order { P.told → last_of (P.state journal.old).calls ≤ beat.old }
     ensures went { IfOk result (λ flow. (was : Bool) → Went P.told C.told O.told (C.moment clock.old) (standing home.old.entries (O.taken out.old) was)
         (event_of found.now ∷ []) home.new.entries (O.taken out.new) flow) }
-    ensures halted { IfErr result (λ status. (was : Bool) → Halted P.told C.told O.told (C.moment clock.old) (standing home.old.entries (O.taken out.old) was)
+    ensures halted { IfErr result (λ status. (was : Bool) → Halted ((P.state journal.old).seen ≡ []) P.told C.told O.told (C.moment clock.old) (standing home.old.entries (O.taken out.old) was)
         (event_of found.now ∷ []) (P.state journal.new) (O.taken out.new) status) }
     ensures legal { OnOk result (IsLegal home.new.entries) }
     ensures sound { OnOk result (home.new.journal.sound ≡ true) }
     ensures goes { P.told → OnOk result (GoneOn home.old.entries (P.state journal.old) beat.old home.new (P.state journal.new) beat.new) }
-    ensures moments { P.told → OnErr result (Moments (LeftAt (P.state journal.old)) (LeftAt (P.state journal.new)) beat.old (MayLeave ((P.state journal.old).seen ≡ []) home.old.entries)) }
+    ensures moments { P.told → Moments (LeftAt (P.state journal.old)) (LeftAt (P.state journal.new)) beat.old
+        (TurnsMayLeave ((P.state journal.old).seen ≡ []) C.told (Unit {0}) (C.moment clock.old) home.old.entries (event_of found.now ∷ [])) }
     ensures reason { IfErr result (EndedBy (Rose (P.faults journal.old) (P.faults journal.new)) (λ _. P.told → ⊥) ⊥ (Rose (O.faults out.old) (O.faults out.new))) }
     ensures clock { C.told → C.moment clock.new ≡ C.moment clock.old }
     ensures order { P.told → last_of (P.state journal.new).calls ≤ beat.new }
@@ -70,7 +70,7 @@ fn found_turn<P: Disk, C: Clock, O: Sink>(
 }
 
 // Takes one byte more, and does what came to its end with it.
-#[tactic(auto, using(cd_turn::proofs::Homes::rests_moments))]
+#[tactic(auto, using(crate::proofs::Leaving::rests_turns))]
 fn byte_turn<P: Disk, C: Clock, O: Sink>(
     alloc: Global,
     home: &mut Home,
@@ -88,13 +88,14 @@ fn byte_turn<P: Disk, C: Clock, O: Sink>(
     requires order { P.told → last_of (P.state journal.old).calls ≤ beat.old }
     ensures went { IfOk result (λ flow. Went P.told C.told O.told (C.moment clock.old) (standing home.old.entries (O.taken out.old) (was_refused last))
         (scan_after scanner.old byte).1 home.new.entries (O.taken out.new) flow) }
-    ensures halted { IfErr result (λ status. Halted P.told C.told O.told (C.moment clock.old) (standing home.old.entries (O.taken out.old) (was_refused last))
+    ensures halted { IfErr result (λ status. Halted ((P.state journal.old).seen ≡ []) P.told C.told O.told (C.moment clock.old) (standing home.old.entries (O.taken out.old) (was_refused last))
         (scan_after scanner.old byte).1 (P.state journal.new) (O.taken out.new) status) }
     ensures scanner { OnOk result (scanner.new ≡ (scan_after scanner.old byte).0) }
     ensures legal { OnOk result (IsLegal home.new.entries) }
     ensures sound { OnOk result (home.new.journal.sound ≡ true) }
     ensures goes { P.told → OnOk result (GoneOn home.old.entries (P.state journal.old) beat.old home.new (P.state journal.new) beat.new) }
-    ensures moments { P.told → OnErr result (Moments (LeftAt (P.state journal.old)) (LeftAt (P.state journal.new)) beat.old (MayLeave ((P.state journal.old).seen ≡ []) home.old.entries)) }
+    ensures moments { P.told → Moments (LeftAt (P.state journal.old)) (LeftAt (P.state journal.new)) beat.old
+        (TurnsMayLeave ((P.state journal.old).seen ≡ []) C.told (Unit {0}) (C.moment clock.old) home.old.entries (scan_after scanner.old byte).1) }
     ensures reason { IfErr result (EndedBy (Rose (P.faults journal.old) (P.faults journal.new)) (λ _. P.told → ⊥) ⊥ (Rose (O.faults out.old) (O.faults out.new))) }
     ensures clock { C.told → C.moment clock.new ≡ C.moment clock.old }
     ensures order { P.told → last_of (P.state journal.new).calls ≤ beat.new }
@@ -113,7 +114,7 @@ fn byte_turn<P: Disk, C: Clock, O: Sink>(
 }
 
 // Does what comes to its end with the input, or at its limit. Where there is nothing, the run ends with the status that is given.
-#[tactic(auto, using(cd_turn::proofs::Homes::rests_moments))]
+#[tactic(auto, using(crate::proofs::Leaving::rests_turns))]
 fn finish<P: Disk, C: Clock, O: Sink>(
     alloc: Global,
     home: &mut Home,
@@ -129,11 +130,12 @@ fn finish<P: Disk, C: Clock, O: Sink>(
     requires home { P.told → IsHome home.old (P.state journal.old) }
     requires order { P.told → last_of (P.state journal.old).calls ≤ beat.old }
     requires none { EndedBy ⊥ (λ _. ⊥) ⊥ ⊥ if_none }
-    ensures finishes { (was : Bool) → Finishes P.told C.told O.told (C.moment clock.old) (standing home.old.entries (O.taken out.old) was) (P.state journal.old)
+    ensures finishes { (was : Bool) → Finishes ((P.state journal.old).seen ≡ []) P.told C.told O.told (C.moment clock.old) (standing home.old.entries (O.taken out.old) was) (P.state journal.old)
         (events_of found) if_none home.new.entries (P.state journal.new) (O.taken out.new) result }
     ensures legal { IfBetween result (IsLegal home.new.entries) }
     ensures goes { P.told → IfBetween result (GoneOn home.old.entries (P.state journal.old) beat.old home.new (P.state journal.new) beat.new) }
-    ensures moments { P.told → Moments (LeftAt (P.state journal.old)) (LeftAt (P.state journal.new)) beat.old (MayLeave ((P.state journal.old).seen ≡ []) home.old.entries) }
+    ensures moments { P.told → Moments (LeftAt (P.state journal.old)) (LeftAt (P.state journal.new)) beat.old
+        (TurnsMayLeave ((P.state journal.old).seen ≡ []) C.told (Unit {0}) (C.moment clock.old) home.old.entries (events_of found)) }
     ensures reason { EndedBy (Rose (P.faults journal.old) (P.faults journal.new)) (λ _. P.told → ⊥) ⊥ (Rose (O.faults out.old) (O.faults out.new)) result }
     ensures order { P.told → last_of (P.state journal.new).calls ≤ beat.new }
     ensures beat { beat.old ≤ beat.new }
@@ -163,9 +165,10 @@ fn serve<P: Disk, C: Clock, S: Source, O: Sink>(
     requires sound { home.old.journal.sound ≡ true }
     requires home { P.told → IsHome home.old (P.state journal.old) }
     requires order { P.told → last_of (P.state journal.old).calls ≤ beat.old }
-    ensures ran { Ran P.told C.told S.told O.told (C.moment clock.old) home.old.entries (O.taken out.old) (S.remaining input.old) (S.remaining input.new)
+    ensures ran { Ran ((P.state journal.old).seen ≡ []) P.told C.told S.told O.told (C.moment clock.old) home.old.entries (O.taken out.old) (S.remaining input.old) (S.remaining input.new)
         (P.state journal.new) (O.taken out.new) result }
-    ensures moments { P.told → Moments (LeftAt (P.state journal.old)) (LeftAt (P.state journal.new)) beat.old (MayLeave ((P.state journal.old).seen ≡ []) home.old.entries) }
+    ensures moments { P.told → Moments (LeftAt (P.state journal.old)) (LeftAt (P.state journal.new)) beat.old
+        (TurnsMayLeave ((P.state journal.old).seen ≡ []) C.told S.told (C.moment clock.old) home.old.entries (run_events (S.remaining input.old))) }
     ensures reason { EndedBy (Rose (P.faults journal.old) (P.faults journal.new)) (λ _. P.told → ⊥) (Rose (S.faults input.old) (S.faults input.new)) (Rose (O.faults out.old) (O.faults out.new)) result }
     ensures order { P.told → last_of (P.state journal.new).calls ≤ beat.new }
     ensures beat { beat.old ≤ beat.new }
@@ -245,7 +248,7 @@ fn run<P: Disk, C: Clock, S: Source, O: Sink>(
 ) -> Status
     requires { P.told → last_of (P.state journal.old).calls ≤ beat.old }
     ensures came { Came P.told C.told S.told O.told (C.moment clock.old) (P.state journal.old) (P.state journal.new) (S.remaining input.old) (S.remaining input.new) (O.taken out.old) (O.taken out.new) result }
-    ensures moments { P.told → Moments (LeftAt (P.state journal.old)) (LeftAt (P.state journal.new)) beat.old (RunMayLeave (P.state journal.old)) }
+    ensures moments { P.told → Moments (LeftAt (P.state journal.old)) (LeftAt (P.state journal.new)) beat.old (RunMayLeave C.told S.told (C.moment clock.old) (S.remaining input.old) (P.state journal.old)) }
     ensures reason { EndedBy (Rose (P.faults journal.old) (P.faults journal.new)) (λ at. P.told → IsUnfit (P.state journal.old).seen at) (Rose (S.faults input.old) (S.faults input.new)) (Rose (O.faults out.old) (O.faults out.new)) result }
     ensures order { P.told → last_of (P.state journal.new).calls ≤ beat.new }
     ensures beat { beat.old ≤ beat.new }
@@ -266,8 +269,8 @@ fn run<P: Disk, C: Clock, S: Source, O: Sink>(
 /// Runs the node on the journal: reads commands from the input, and writes a line for each to the output. A submission
 /// gets its number, and is on the disk before the line that acknowledges it is written. It takes no words.
 ///
-/// A crash at any moment leaves a journal that begins with all entries that were kept before it. A run makes turns, one after
-/// the other, of the commands of the input, and the status tells how far it came.
+/// A run makes turns, one after the other, of the commands of the input, and the status tells how far it came. A crash at any
+/// moment leaves a journal of all that was kept before the run, and behind it just what the first of these turns add.
 pub fn run_node<P: Disk, C: Clock, S: Source, O: Sink>(
     alloc: Global,
     words: &[&str],
@@ -279,7 +282,7 @@ pub fn run_node<P: Disk, C: Clock, S: Source, O: Sink>(
 ) -> Status
     requires { P.told → last_of (P.state journal.old).calls ≤ beat.old }
     // With words it does nothing.
-    ensures usage { 0 < length words.now → (result ≡ Status.Usage) × (journal.new ≡ journal.old) × (input.new ≡ input.old) × (beat.new ≡ beat.old) }
+    ensures usage { 0 < length words.now → (result ≡ Status.Usage) × (journal.new ≡ journal.old) × (clock.new ≡ clock.old) × (input.new ≡ input.old) × (beat.new ≡ beat.old) }
     ensures usage_line { 0 < length words.now → O.told → TookLine (Rose (O.faults out.old) (O.faults out.new)) (O.taken out.old) (last_line Status.Usage) (O.taken out.new) }
     // What it did, and how far it came.
     ensures served { length words.now ≡ 0 → Served P.told C.told S.told O.told (Rose (O.faults out.old) (O.faults out.new)) (C.moment clock.old)
@@ -295,7 +298,7 @@ pub fn run_node<P: Disk, C: Clock, S: Source, O: Sink>(
     // A fault of a device has its cause in this call, and so has a journal that isn't one.
     ensures reason { length words.now ≡ 0 → EndedBy (Rose (P.faults journal.old) (P.faults journal.new)) (λ at. P.told → IsUnfit (P.state journal.old).seen at) (Rose (S.faults input.old) (S.faults input.new)) (Rose (O.faults out.old) (O.faults out.new)) result }
     // What a crash may leave, at each moment of the call.
-    ensures moments { P.told → Moments (LeftAt (P.state journal.old)) (LeftAt (P.state journal.new)) beat.old (RunMayLeave (P.state journal.old)) }
+    ensures moments { P.told → Moments (LeftAt (P.state journal.old)) (LeftAt (P.state journal.new)) beat.old (RunMayLeave C.told S.told (C.moment clock.old) (S.remaining input.old) (P.state journal.old)) }
     ensures order { P.told → last_of (P.state journal.new).calls ≤ beat.new }
     ensures beat { beat.old ≤ beat.new }
 {

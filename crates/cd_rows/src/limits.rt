@@ -53,16 +53,48 @@ fn the_input_is_at_its_limit(rt: HostRuntime) -> Result<(), Fail> {
 
 #[test]
 fn a_command_is_at_its_limit(rt: HostRuntime) -> Result<(), Fail> {
-    for (count, lines) in [
-        (69_999, b"REFUSED TEXT Word 0\nSTOPPED\n".as_slice()),
-        (70_000, b"REFUSED TEXT TooLong 70000\n"),
+    for (count, lines, status) in [
+        (
+            69_999,
+            b"REFUSED TEXT Word 0\nSTOPPED\n".as_slice(),
+            Status::Done,
+        ),
+        (70_000, b"REFUSED TEXT TooLong 70000\n", Status::Refused),
     ] {
         let mut commands = vec![in rt.alloc(); b'a'; count]?;
         commands.extend_from_slice(b";stop;")?;
         let mut machine = Machine::new(rt.alloc(), NAMED)?;
         let ran = machine.run(&commands)?;
         assert_eq!(rt; ran.out.bytes(), lines);
+        assert_eq!(rt; ran.status, status);
         assert_eq!(rt; machine.bytes(), NAMED);
+    }
+    Ok(())
+}
+
+// A Process text of so many bytes: a push, and then a comment.
+fn push_of(alloc: Global, count: usize) -> Result<Vec<u8>, AllocError> {
+    let mut text = Vec::from_slice(
+        alloc,
+        b"P1 PROCESS SNODE=BETA S1 COPY FROM (FILE=a) TO (FILE=b) PEND/*",
+    )?;
+    text.resize(count.saturating_sub(2), b'-')?;
+    text.extend_from_slice(b"*/")?;
+    Ok(text)
+}
+
+#[test]
+fn a_process_text_is_at_its_limit(rt: HostRuntime) -> Result<(), Fail> {
+    for (count, line) in [
+        (65_536, b"PROCESS 1 SUBMITTED\n".as_slice()),
+        (65_537, b"REFUSED TEXT TooLong 65537\n"),
+    ] {
+        let mut command = Vec::from_slice(rt.alloc(), b"submit ")?;
+        command.extend_from_slice(&push_of(rt.alloc(), count)?)?;
+        command.push(b';')?;
+        let mut machine = Machine::new(rt.alloc(), NAMED)?;
+        let ran = machine.run(&command)?;
+        assert_eq!(rt; ran.out.bytes(), line);
     }
     Ok(())
 }

@@ -8,7 +8,7 @@ use Rattle.cd_journal.specs.Bytes.{Listing, list_of}
 use Rattle.cd_entries.specs.declared.entry.Entry.{Entry}
 use Rattle.cd_entries.specs.Entry.{entry_bytes, entry_of, IsEntry}
 use Rattle.cd_entries.specs.EntryLaw.{entry_again, entry_only}
-use Rattle.cd_turn.specs.Home.{StandsFor, KeepsEntries, IsFit, place_behind, IsBad, IsFirstBad, IsUnfit}
+use Rattle.cd_turn.specs.Home.{StandsFor, IsJournal, IsFit, place_behind, IsBad, IsFirstBad, IsUnfit}
 use Rattle.cd_turn.specs.Legal.{IsNext, FollowLegally, IsLegal}
 use Rattle.cd_turn.proofs.BodyBytes.{list_bytes}
 use Rattle.cd_turn.proofs.Deciding.{next_is}
@@ -176,5 +176,5 @@ pub blank_fit : IsFit []
 unfolding list_of
 blank_fit = ([], refl, tt)
 
-pub kept_fit : (entries : List Entry) (bytes : List ℕ) → KeepsEntries entries bytes → IsFit bytes
-kept_fit entries bytes keeps = (keeps.list, keeps.stands, keeps.legal)
+pub kept_fit : (entries : List Entry) (bytes : List ℕ) → IsJournal entries bytes → IsFit bytes
+kept_fit entries bytes kept = (entries, kept.stands, kept.legal)

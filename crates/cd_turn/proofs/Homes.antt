@@ -1,5 +1,5 @@
 -- What a home comes to when its journal is made, opened and added to.
-use Rattle.std.proofs.Common.{◌≡◌, ◌⊎◌, inl, inr, ⊎_elim, ℕ, ◌+◌, ◌≤◌, ◌<◌, Bool, true, false, List, [], ◌∷◌, ◌++◌, length, map, Result, Ok, Err, refl, sym, ap, subst, ◌∙◌, arith}
+use Rattle.std.proofs.Common.{◌≡◌, ◌⊎◌, inl, inr, ⊎_elim, ℕ, ◌+◌, ◌≤◌, ◌<◌, Bool, true, false, List, [], ◌∷◌, ◌++◌, length, map, Option, Some, None, Result, Ok, Err, refl, sym, ap, subst, ◌∙◌, arith}
 use Rattle.std.proofs.lemmas.List.{map_push, append-nil}
 use Rattle.cd_outside.specs.Doubt.{Doubt, settled, IsImage}
 use Rattle.cd_outside.specs.Disk.{DiskState, last_of, LeftAt}
@@ -11,7 +11,7 @@ use Rattle.cd_journal.specs.Journal.{Held, Opens, IsAt, with_last, IsBeforeOrAft
 use Rattle.cd_journal.proofs.Fronts.{list_of-closed, front_header}
 use Rattle.cd_entries.specs.declared.entry.Entry.{Entry}
 use Rattle.cd_entries.specs.Entry.{entry_bytes, IsEntry}
-use Rattle.cd_turn.specs.Home.{HomeState, StandsFor, IsHome, KeepsEntries}
+use Rattle.cd_turn.specs.Home.{HomeState, StandsFor, IsHome, IsJournal, HasKept}
 use Rattle.cd_turn.specs.Legal.{IsNext, IsLegal}
 use Rattle.cd_turn.specs.Ends.{MayLeave}
 use Rattle.cd_turn.proofs.Legality.{legal_push}
@@ -76,23 +76,41 @@ unchanged home disk from e is order =
     moments_none disk disk from (λ image. StandsFor image home.entries ⊎ StandsFor image (home.entries ++ e ∷ [])) refl order
     (λ image left. inl (ap list_of (settled_image disk.seen image (subst (λ (d : Doubt). IsImage d image) is.rests left)) ∙ is.list))
 
--- a list that the entry may follow, with it or without it, keeps the list
-pub keeps_image : (entries : List Entry) (e : Entry) (image : List ℕ) → IsLegal entries → IsEntry e → IsNext entries e → StandsFor image entries ⊎ StandsFor image (entries ++ e ∷ []) → KeepsEntries entries image
-keeps_image entries e image legal form next left = ⊎_elim
-    (λ same. record { list = entries; stands = same; legal = legal; extends = ([], sym (append-nil entries)) })
-    (λ more. record { list = entries ++ e ∷ []; stands = more; legal = legal_push entries e legal form next; extends = (e ∷ [], refl) })
+-- a list that the entry may follow, without it or with it
+pub left_image : (fresh : Type 0) (entries : List Entry) (e : Entry) (image : List ℕ) → IsLegal entries → IsEntry e → IsNext entries e → StandsFor image entries ⊎ StandsFor image (entries ++ e ∷ []) → MayLeave fresh entries (Some e) image
+left_image fresh entries e image legal form next left = ⊎_elim
+    (λ same. inl (record { stands = same; legal = legal }))
+    (λ more. inr (inl (record { stands = more; legal = legal_push entries e legal form next })))
     left
 
+-- a home keeps its entries
+pub rests_kept : (home : HomeState) (disk : DiskState) → IsLegal home.entries → IsHome home disk → HasKept home.entries disk
+rests_kept home disk legal is = record { journal = record { stands = is.list; legal = legal }; rests = is.rests }
+
+-- and a crash leaves them
+pub kept_image : (entries : List Entry) (disk : DiskState) (image : List ℕ) → HasKept entries disk → IsImage disk.doubt image → IsJournal entries image
+kept_image entries disk image kept left = record {
+  stands = ap list_of (settled_image disk.seen image (subst (λ (d : Doubt). IsImage d image) kept.rests left)) ∙ kept.journal.stands;
+  legal = kept.journal.legal;
+}
+
+pub rests_image : (home : HomeState) (disk : DiskState) (image : List ℕ) → IsLegal home.entries → IsHome home disk → IsImage disk.doubt image → IsJournal home.entries image
+rests_image home disk image legal is left = kept_image home.entries disk image (rests_kept home disk legal is) left
+
+-- what a crash leaves that leaves the entries
+pub leaves_none : (fresh : Type 0) (entries : List Entry) (entry : Option Entry) (image : List ℕ) → IsJournal entries image → MayLeave fresh entries entry image
+leaves_none fresh entries None image is = is
+leaves_none fresh entries (Some e) image is = inl is
+
 -- nothing was done in a turn
-pub rests_moments : (home : HomeState) (disk : DiskState) (from : ℕ) → IsLegal home.entries → IsHome home disk → last_of disk.calls ≤ from → Moments (LeftAt disk) (LeftAt disk) from (MayLeave (disk.seen ≡ []) home.entries)
-rests_moments home disk from legal is order =
-    moments_none disk disk from (MayLeave (disk.seen ≡ []) home.entries) refl order
-    (λ image left. inl (record {
-      list = home.entries;
-      stands = ap list_of (settled_image disk.seen image (subst (λ (d : Doubt). IsImage d image) is.rests left)) ∙ is.list;
-      legal = legal;
-      extends = ([], sym (append-nil home.entries));
-    }))
+pub rests_moments : (home : HomeState) (disk : DiskState) (from : ℕ) (entry : Option Entry) → IsLegal home.entries → IsHome home disk → last_of disk.calls ≤ from → Moments (LeftAt disk) (LeftAt disk) from (MayLeave (disk.seen ≡ []) home.entries entry)
+rests_moments home disk from entry legal is order =
+    moments_none disk disk from (MayLeave (disk.seen ≡ []) home.entries entry) refl order
+    (λ image left. leaves_none (disk.seen ≡ []) home.entries entry image (rests_image home disk image legal is left))
+
+-- the home has what an order adds, and a crash leaves just that
+pub rests_after : (home : HomeState) (disk : DiskState) (entries : List Entry) → home.entries ≡ entries → IsLegal home.entries → IsHome home disk → HasKept entries disk
+rests_after home disk entries same legal is = subst (λ (es : List Entry). HasKept es disk) same (rests_kept home disk legal is)
 
 -- with an entry there are bytes
 pub entry_seen : (home : HomeState) (disk : DiskState) (entries : List Entry) (e : Entry) → IsHome home disk → home.entries ≡ entries ++ e ∷ [] → disk.seen ≡ [] → ⊥

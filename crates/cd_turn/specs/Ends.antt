@@ -1,16 +1,18 @@
 -- What a crash may leave of a home's journal, and how a turn ends the run.
-use Rattle.std.specs.Prelude.{◌≡◌, ◌⊎◌, ℕ, ◌+◌, ◌^◌, ◌<◌, ◌≤◌, List, [], length, sum_by, Option, Some, None}
+use Rattle.std.specs.Prelude.{◌≡◌, ◌⊎◌, ℕ, ◌+◌, ◌^◌, ◌<◌, ◌≤◌, List, [], ◌∷◌, ◌++◌, length, sum_by, Option, Some, None}
 use Rattle.cd_entries.specs.declared.entry.Entry.{Entry}
 use Rattle.cd_entries.specs.Entry.{entry_bytes}
 use Rattle.cd_outside.specs.Streams.{TookFront}
-use Rattle.cd_turn.specs.Home.{KeepsEntries}
+use Rattle.cd_turn.specs.Home.{IsJournal}
 use Rattle.cd_turn.specs.declared.status.Status.{Status}
 use Rattle.cd_turn.specs.declared.status.Status.TheVariants.{Unfit, DiskFault, JournalFull, SinkFault, NoMemory}
 
--- The journal's bytes that a crash may leave: a legal list that has these entries at its front. Where there was no journal
--- and nothing was acknowledged yet, a stop while it is made may leave up to nine bytes of any kind.
-abbrev pub MayLeave : Type 0 → List Entry → List ℕ → Type 0
-MayLeave fresh entries image = KeepsEntries entries image ⊎ (fresh × (entries ≡ []) × (length image ≤ 9))
+-- The journal's bytes that a crash may leave of a home with these entries where nothing is added to them: just those of the
+-- entries. Where this entry is added: those of the entries, or those of the entries with it behind them; and where there was no
+-- journal yet, a stop while it is made may leave up to nine bytes of any kind.
+abbrev pub MayLeave : Type 0 → List Entry → Option Entry → List ℕ → Type 0
+MayLeave fresh entries None image = IsJournal entries image
+MayLeave fresh entries (Some e) image = IsJournal entries image ⊎ (IsJournal (entries ++ e ∷ []) image ⊎ (fresh × (entries ≡ []) × (length image ≤ 9)))
 
 -- The length of a journal of these entries: the header, a gate, a length and the body of each, and the closed gate.
 abbrev pub journal_length : List Entry → ℕ

@@ -6,7 +6,7 @@ use Rattle.cd_journal.specs.Bytes.{list_of}
 use Rattle.cd_journal.specs.Journal.{Held, IsAt}
 use Rattle.cd_entries.specs.declared.entry.Entry.{Entry}
 use Rattle.cd_entries.specs.Entry.{entry_bytes, entry_of}
-use Rattle.cd_turn.specs.Legal.{IsNext, IsLegal, Extends}
+use Rattle.cd_turn.specs.Legal.{IsNext, IsLegal}
 
 -- what contracts see of a home
 pub record HomeState : Type 0 where
@@ -25,12 +25,15 @@ pub record IsHome (home : HomeState) (disk : DiskState) : Type 0 where
   pub header : (home.journal.has_header ≡ true) ↔ (0 < length disk.seen)
   pub rests : disk.doubt ≡ settled disk.seen
 
--- the bytes are a journal of a legal list that has these entries at its front
-pub record KeepsEntries (entries : List Entry) (bytes : List ℕ) : Type 0 where
-  pub list : List Entry
-  pub stands : StandsFor bytes list
-  pub legal : IsLegal list
-  pub extends : Extends entries list
+-- the bytes are a journal of these entries, and the list is legal
+pub record IsJournal (entries : List Entry) (bytes : List ℕ) : Type 0 where
+  pub stands : StandsFor bytes entries
+  pub legal : IsLegal entries
+
+-- the disk has a journal of these entries, and from now on a crash leaves just that
+pub record HasKept (entries : List Entry) (disk : DiskState) : Type 0 where
+  pub journal : IsJournal entries disk.seen
+  pub rests : disk.doubt ≡ settled disk.seen
 
 -- the bytes are a journal of a legal list; where there are none, it is the list without entries
 abbrev pub IsFit : List ℕ → Type 0

@@ -1,5 +1,5 @@
 -- What a command asks of the node, as far as commands are built today.
-use Rattle.std.specs.Prelude.{◌≡◌, ℕ, ◌≤◌, List, length, Bool, true, Option, Some, None, if◌then◌else◌}
+use Rattle.std.specs.Prelude.{◌≡◌, ℕ, ◌≤◌, List, length, Bool, true, ◌&&◌, is_none, Option, Some, None, if◌then◌else◌}
 use Rattle.cd_types.specs.NodeName.{IsNodeName}
 use Rattle.cd_ast.specs.Canonical.{canonical}
 use Rattle.cd_ast.specs.declared.fault.FaultName.TheVariants.{TooLong, Unfinished}
@@ -18,9 +18,14 @@ use Rattle.cd_reading.specs.Read.{canonical_reading}
 use Rattle.cd_turn.specs.declared.order.Order.{Order}
 use Rattle.cd_turn.specs.declared.order.Order.TheVariants as order
 
--- a submission of this Process: one that is built is kept with the options put in
+-- The options that are built: a partner, a class, and values of names. One that says a priority, a hold, what is retained or a
+-- start isn't, whatever it says.
+abbrev pub are_built : Options → Bool
+are_built options = is_none options.prty && is_none options.hold && is_none options.retain && is_none options.start
+
+-- a submission of this Process: one that is built, with options that are, is kept with the options put in
 abbrev pub submitted : Options → Process → Order
-submitted options process = if is_push None (with_options options process) then order.Submit (filed options process) else order.NotBuilt
+submitted options process = if are_built options && is_push None (with_options options process) then order.Submit (filed options process) else order.NotBuilt
 
 abbrev pub order_for : Command → Order
 order_for (command.Init name home) = order.Init name home

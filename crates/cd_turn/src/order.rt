@@ -3,7 +3,7 @@ ghost use Rattle.std.specs.Prelude.{◌≡◌, ℕ, List, IfOk};
 ghost use Rattle.cd_grammar.specs.Faults.{Says};
 ghost use Rattle.cd_hearing.specs.Heard.{heard};
 ghost use Rattle.cd_input.specs.Scanner.{event_of};
-ghost use Rattle.cd_turn.specs.Order.{submitted, order_for, order_of, told_by, IsFormed, IsSaid};
+ghost use Rattle.cd_turn.specs.Order.{are_built, submitted, order_for, order_of, told_by, IsFormed, IsSaid};
 
 use cd_ast::{FaultName, Process};
 use cd_commands::{Command, Options};
@@ -32,6 +32,16 @@ pub enum Order {
     Stop,
 }
 
+/// Whether the options of a submission are built: a partner, a class, and values of names are.
+fn are_built(options: &Options) -> bool
+    ensures { result ≡ are_built options.now }
+{
+    options.prty.is_none()
+        && options.hold.is_none()
+        && options.retain.is_none()
+        && options.start.is_none()
+}
+
 /// A submission of this Process.
 fn submitted(process: Process, options: &Options) -> Order
     ensures order { result ≡ submitted options.now process }
@@ -40,6 +50,9 @@ fn submitted(process: Process, options: &Options) -> Order
     law_of_filings();
     law_of_readings();
     law_of_ranges();
+    if !are_built(options) {
+        return Order::NotBuilt;
+    }
     let process = with_options(process, options);
     if is_push(&process, None) {
         Order::Submit(filled(process))

@@ -7,7 +7,7 @@ ghost use Rattle.cd_outside.specs.Streams.{TookFront};
 ghost use Rattle.cd_journal.specs.Fault.{OnDisk, IfFull, IfUnfit};
 ghost use Rattle.cd_entries.specs.Entry.{entry_bytes, IsEntry, IsWritable};
 ghost use Rattle.cd_turn.specs.Entries.{submitted_in};
-ghost use Rattle.cd_turn.specs.Home.{IsHome};
+ghost use Rattle.cd_turn.specs.Home.{IsHome, HasKept};
 ghost use Rattle.cd_turn.specs.Legal.{IsLegal, IsNext};
 ghost use Rattle.cd_turn.specs.Order.{IsFormed};
 ghost use Rattle.cd_turn.specs.Reply.{reply_text};
@@ -178,7 +178,7 @@ fn kept<P: Disk>(
     ensures form { OnOk result (IsEntry entry) }
     ensures sound { OnOk result (home.new.journal.sound ≡ true) }
     ensures moments { P.told → Moments (LeftAt (P.state journal.old)) (LeftAt (P.state journal.new)) beat.old
-        (MayLeave ((P.state journal.old).seen ≡ []) home.old.entries) }
+        (MayLeave ((P.state journal.old).seen ≡ []) home.old.entries (Some entry)) }
     ensures full { IfFull result (λ len. 2 ^ 30 < len + 5 + length (entry_bytes entry)) }
     ensures full_len { P.told → IfFull result (λ len. len ≡ journal_length home.old.entries) }
     ensures fits { P.told → OnOk result (FitsBehind home.old.entries (Some entry)) }
@@ -220,7 +220,7 @@ fn keep_entry<P: Disk>(
     ensures legal { OnOk result (IsLegal home.new.entries) }
     ensures sound { OnOk result (home.new.journal.sound ≡ true) }
     ensures moments { P.told → Moments (LeftAt (P.state journal.old)) (LeftAt (P.state journal.new)) beat.old
-        (MayLeave ((P.state journal.old).seen ≡ []) home.old.entries) }
+        (MayLeave ((P.state journal.old).seen ≡ []) home.old.entries (Some entry)) }
     ensures fresh { P.told → OnOk result ((P.state journal.new).seen ≡ [] → ⊥) }
     ensures reason { IfErr result (HasReason P.told (Rose (P.faults journal.old) (P.faults journal.new)) ⊥ home.old.entries (Some entry)) }
     ensures fits { P.told → OnOk result (FitsBehind home.old.entries (Some entry)) }
@@ -238,7 +238,7 @@ fn keep_entry<P: Disk>(
 }
 
 // Keeps what an order adds.
-#[tactic(auto, using(crate::proofs::Adding::added_may, crate::proofs::Homes::rests_moments))]
+#[tactic(auto, using(crate::proofs::Adding::added_may))]
 fn keep_added<P: Disk>(
     alloc: Global,
     home: &mut Home,
@@ -257,7 +257,7 @@ fn keep_added<P: Disk>(
     ensures legal { OnOk result (IsLegal home.new.entries) }
     ensures sound { OnOk result (home.new.journal.sound ≡ true) }
     ensures moments { P.told → Moments (LeftAt (P.state journal.old)) (LeftAt (P.state journal.new)) beat.old
-        (MayLeave ((P.state journal.old).seen ≡ []) home.old.entries) }
+        (MayLeave ((P.state journal.old).seen ≡ []) home.old.entries (added home.old.entries now wanted.now)) }
     ensures fresh { P.told → OnOk result ((P.state journal.new).seen ≡ [] → (P.state journal.old).seen ≡ []) }
     ensures reason { IfErr result (HasReason P.told (Rose (P.faults journal.old) (P.faults journal.new)) ⊥ home.old.entries (added home.old.entries now wanted.now)) }
     ensures fits { P.told → OnOk result (FitsBehind home.old.entries (added home.old.entries now wanted.now)) }
@@ -288,8 +288,8 @@ fn tell<O: Sink>(reply: Reply, text: &[u8], out: &mut O) -> Result<Reply, Status
 
 /// Does one order: decides the answer, keeps what the order adds, and then writes the answer. So what was answered is
 /// on the disk. Where it fails, the run ends; the output took a front of the answer where that is what failed, and else
-/// nothing.
-#[tactic(auto, using(crate::proofs::Homes::rests_moments))]
+/// nothing. A crash at any moment leaves the entries before it, or these with what the order adds.
+#[tactic(auto, using(crate::proofs::Homes::rests_after))]
 pub fn make_turn<P: Disk, O: Sink>(
     alloc: Global,
     home: &mut Home,
@@ -307,12 +307,14 @@ pub fn make_turn<P: Disk, O: Sink>(
     ensures reply { IfOk result (λ reply. reply ≡ answer home.old.entries wanted.now) }
     ensures out { O.told → IfOk result (λ reply. O.taken out.new ≡ O.taken out.old ++ reply_text reply) }
     ensures took { O.told → IfErr result (λ status. TookAtEnd status (reply_text (answer home.old.entries wanted.now)) (O.taken out.old) (O.taken out.new)) }
+    // Where the output failed, what the order adds was on the disk before.
+    ensures written { P.told → IfErr result (λ status. status ≡ Status.SinkFault → HasKept (home.old.entries ++ option_to_list (added home.old.entries now wanted.now)) (P.state journal.new)) }
     ensures home { P.told → OnOk result (IsHome home.new (P.state journal.new)) }
     ensures kept { OnOk result (home.new.entries ≡ home.old.entries ++ option_to_list (added home.old.entries now wanted.now)) }
     ensures legal { OnOk result (IsLegal home.new.entries) }
     ensures sound { OnOk result (home.new.journal.sound ≡ true) }
     ensures moments { P.told → Moments (LeftAt (P.state journal.old)) (LeftAt (P.state journal.new)) beat.old
-        (MayLeave ((P.state journal.old).seen ≡ []) home.old.entries) }
+        (MayLeave ((P.state journal.old).seen ≡ []) home.old.entries (added home.old.entries now wanted.now)) }
     ensures fresh { P.told → OnOk result ((P.state journal.new).seen ≡ [] → (P.state journal.old).seen ≡ []) }
     ensures reason { IfErr result (HasReason P.told (Rose (P.faults journal.old) (P.faults journal.new)) (Rose (O.faults out.old) (O.faults out.new)) home.old.entries (added home.old.entries now wanted.now)) }
     ensures fits { P.told → OnOk result (FitsBehind home.old.entries (added home.old.entries now wanted.now)) }

@@ -1,10 +1,14 @@
 use Rattle.std.proofs.Common.{◌≡◌, List, [], ◌∷◌, ap, sym, subst, ◌∙◌}
 use Rattle.cd_input.specs.Input.{Scan, Event, scan_after}
 use Rattle.cd_input.specs.Scanner.{events_of}
+use Rattle.cd_outside.specs.Disk.{LeftAt}
+use Rattle.cd_outside.specs.Moments.{Moments}
 use Rattle.cd_cli.specs.Flow.{was_refused}
+use Rattle.cd_cli.specs.Run.{TurnsMayLeave}
 use Rattle.cd_cli.specs.Stretch.{standing, Went, Halted}
 use Rattle.cd_cli.proofs.Going.{gone_none}
-use Rattle.cd_cli.proofs.Halting.{went_none, halted_none, keeps_rest}
+use Rattle.cd_cli.proofs.Halting.{went_none, halted_none}
+use Rattle.cd_turn.proofs.Homes.{rests_kept}
 use Rattle.cd_cli.proofs.run.byte_turn.Goals as goal
 
 -- nothing came to its end
@@ -15,7 +19,7 @@ returns-in-Ok-None-clause-went g c =
 
 pub returns-in-Ok-None-clause-goes : goal.returns-in-Ok-None-clause-goes
 returns-in-Ok-None-clause-goes g c = λ told.
-    gone_none c.args.home.now (g.P.Disk.state c.args.journal.now) c.args.beat.now c.requires.legal (c.requires.home told) (c.requires.order told)
+    gone_none c.args.home.now (g.P.Disk.state c.args.journal.now) c.args.beat.now (c.requires.home told) (c.requires.order told)
 
 -- a turn was made
 pub returns-in-Ok-clause-went : goal.returns-in-Ok-clause-went
@@ -28,5 +32,12 @@ returns-in-Ok-clause-went g c =
 -- memory ran out
 pub returns-clause-halted : goal.returns-clause-halted
 returns-clause-halted g c =
-    halted_none g.P.Disk.told g.C.Clock.told g.O.Sink.told (g.C.Clock.moment c.args.clock.now) c.args.home.now.entries (g.O.Sink.taken c.args.out.now) (was_refused c.args.last) (scan_after c.args.scanner.now c.args.byte).1
-    (g.P.Disk.state c.args.journal.now) (λ told. keeps_rest c.args.home.now (g.P.Disk.state c.args.journal.now) c.requires.legal (c.requires.home told))
+    halted_none ((g.P.Disk.state c.args.journal.now).seen ≡ []) g.P.Disk.told g.C.Clock.told g.O.Sink.told (g.C.Clock.moment c.args.clock.now) c.args.home.now.entries (g.O.Sink.taken c.args.out.now) (was_refused c.args.last) (scan_after c.args.scanner.now c.args.byte).1
+    (g.P.Disk.state c.args.journal.now) (λ told. rests_kept c.args.home.now (g.P.Disk.state c.args.journal.now) c.requires.legal (c.requires.home told))
+
+-- what a crash may leave
+pub returns-in-Ok-clause-moments : goal.returns-in-Ok-clause-moments
+returns-in-Ok-clause-moments g c = λ told.
+    let before = g.P.Disk.state c.args.journal.now in
+    subst (λ (es : List Event). Moments (LeftAt before) (LeftAt (g.P.Disk.state c.found_turn.new.journal)) c.args.beat.now (TurnsMayLeave (before.seen ≡ []) g.C.Clock.told (Unit {0}) (g.C.Clock.moment c.args.clock.now) c.args.home.now.entries es))
+    (sym (ap (λ (p : Scan × List Event). p.1) c.in-Ok-Some.ensures.ok ∙ ap events_of c.in-Ok-Some.field-0-is)) (c.found_turn.ensures.moments told)

@@ -15,7 +15,7 @@ pub returns-in_default-clause-goes : goal.returns-in_default-clause-goes
 returns-in_default-clause-goes g c = λ told.
     let state = g.P.Disk.state c.args.journal.now in
     between_any (GoneOn c.args.home.now.entries state c.args.beat.now c.args.home.now state c.args.beat.now) c.args.if_none
-    (gone_none c.args.home.now state c.args.beat.now c.requires.legal (c.requires.home told) (c.requires.order told))
+    (gone_none c.args.home.now state c.args.beat.now (c.requires.home told) (c.requires.order told))
 
 -- a last turn was made
 pub returns-in-Ok-clause-finishes : goal.returns-in-Ok-clause-finishes
@@ -27,9 +27,9 @@ returns-in-Ok-clause-finishes g c = λ was.
     let out = g.O.Sink.taken c.found_turn.new.out in
     let brought : List Event = event_of c.in-Some.found ∷ [] in
     let status : c.status.result ≡ status_after (last_in c.in-Ok.flow) = c.status.ensures ∙ ap status_after c.last.ensures in
-    subst (λ (es : List Event). Finishes g.P.Disk.told g.C.Clock.told g.O.Sink.told moment before (g.P.Disk.state c.args.journal.now) es c.args.if_none later now out c.status.result) (sym (ap events_of c.in-Some.is))
-    (subst (λ (s : Status). Closes g.P.Disk.told g.C.Clock.told g.O.Sink.told moment before brought later now out s) (sym status)
-    (closes_after g.P.Disk.told g.C.Clock.told g.O.Sink.told moment before brought later now out (last_in c.in-Ok.flow) (c.in-Ok.ensures.went was).turned))
+    subst (λ (es : List Event). Finishes ((g.P.Disk.state c.args.journal.now).seen ≡ []) g.P.Disk.told g.C.Clock.told g.O.Sink.told moment before (g.P.Disk.state c.args.journal.now) es c.args.if_none later now out c.status.result) (sym (ap events_of c.in-Some.is))
+    (subst (λ (s : Status). Closes ((g.P.Disk.state c.args.journal.now).seen ≡ []) g.P.Disk.told g.C.Clock.told g.O.Sink.told moment before brought later now out s) (sym status)
+    (closes_after ((g.P.Disk.state c.args.journal.now).seen ≡ []) g.P.Disk.told g.C.Clock.told g.O.Sink.told moment before brought later now out (last_in c.in-Ok.flow) (c.in-Ok.ensures.went was).turned))
 
 -- the run was ended within it
 pub returns-clause-finishes : goal.returns-clause-finishes
@@ -40,8 +40,8 @@ returns-clause-finishes g c = λ was.
     let now = g.P.Disk.state c.found_turn.new.journal in
     let out = g.O.Sink.taken c.found_turn.new.out in
     let brought : List Event = event_of c.in-Some.found ∷ [] in
-    subst (λ (es : List Event). Finishes g.P.Disk.told g.C.Clock.told g.O.Sink.told moment before (g.P.Disk.state c.args.journal.now) es c.args.if_none later now out c.in-Err.status) (sym (ap events_of c.in-Some.is))
-    (closes_halted g.P.Disk.told g.C.Clock.told g.O.Sink.told moment before brought later now out c.in-Err.status (c.in-Err.ensures.halted was))
+    subst (λ (es : List Event). Finishes ((g.P.Disk.state c.args.journal.now).seen ≡ []) g.P.Disk.told g.C.Clock.told g.O.Sink.told moment before (g.P.Disk.state c.args.journal.now) es c.args.if_none later now out c.in-Err.status) (sym (ap events_of c.in-Some.is))
+    (closes_halted ((g.P.Disk.state c.args.journal.now).seen ≡ []) g.P.Disk.told g.C.Clock.told g.O.Sink.told moment before brought later now out c.in-Err.status (c.in-Err.ensures.halted was))
 
 pub returns-clause-legal : goal.returns-clause-legal
 returns-clause-legal g c = between_cut (IsLegal c.found_turn.new.home.entries) c.in-Err.status (c.in-Err.ensures.halted false).within

@@ -1,15 +1,15 @@
 use Rattle.std.proofs.Common.{◌≡◌, ℕ, ◌+◌, ◌<◌, ◌≤◌, false, List, [], ◌++◌, Option, refl, sym, subst, ◌∙◌, arith}
-use Rattle.cd_input.specs.Input.{scan_after}
+use Rattle.cd_input.specs.Input.{begin, events, scan_after}
 use Rattle.cd_input.specs.Scanner.{events_of}
 use Rattle.cd_cli.specs.Flow.{was_refused}
 use Rattle.cd_cli.specs.Reader.{IsNextByte}
 use Rattle.cd_cli.specs.Run.{most_input}
 use Rattle.cd_cli.specs.Stretch.{standing, Went}
 use Rattle.cd_cli.specs.declared.flow.Flow.{Flow}
-use Rattle.cd_cli.proofs.Serving.{Reading}
-use Rattle.cd_cli.proofs.Closing.{ended_after, source_failed, finished_end, finished_limit, byte_read, byte_ends, byte_halts}
+use Rattle.cd_cli.proofs.Closing.{ended_after, source_failed, finished_end, finished_limit, byte_read, byte_ends, byte_halts, left_read, left_end, left_limit, left_byte, left_more}
+use Rattle.cd_cli.proofs.Leaving.{ReadSafely, rests_turns}
 use Rattle.cd_cli.proofs.Exits.{read_none}
-use Rattle.cd_cli.proofs.Going.{gone_none, gone_then, moments_behind}
+use Rattle.cd_cli.proofs.Going.{gone_none, gone_then}
 use Rattle.cd_cli.proofs.run.serve.Goals as goal
 
 -- the loop's begin
@@ -17,12 +17,17 @@ pub loop-i-init : goal.loop-i-init
 loop-i-init g c = record {
   legal = c.requires.legal;
   sound = c.requires.sound;
-  goes = λ told. gone_none c.args.home.now (g.P.Disk.state c.args.journal.now) c.args.beat.now c.requires.legal (c.requires.home told) (c.requires.order told);
-  reading = subst (λ (l : List ℕ).
-      Reading g.P.Disk.told g.C.Clock.told g.S.Source.told g.O.Sink.told (g.C.Clock.moment c.args.clock.now) (standing c.args.home.now.entries (g.O.Sink.taken c.args.out.now) false) (g.S.Source.remaining c.args.input.now)
-      (l ++ g.S.Source.remaining c.args.input.now) 0 c.new-scanner.result (standing c.args.home.now.entries (g.O.Sink.taken c.args.out.now) false))
+  goes = λ told. gone_none c.args.home.now (g.P.Disk.state c.args.journal.now) c.args.beat.now (c.requires.home told) (c.requires.order told);
+  safe = let old = g.P.Disk.state c.args.journal.now in subst (λ (l : List ℕ).
+      ReadSafely (old.seen ≡ []) g.P.Disk.told g.C.Clock.told g.S.Source.told g.O.Sink.told (g.C.Clock.moment c.args.clock.now) (standing c.args.home.now.entries (g.O.Sink.taken c.args.out.now) false) (g.S.Source.remaining c.args.input.now)
+      (l ++ g.S.Source.remaining c.args.input.now) 0 c.new-scanner.result (standing c.args.home.now.entries (g.O.Sink.taken c.args.out.now) false) old old c.args.beat.now)
       (sym c.new-reader.ensures)
-      (read_none g.P.Disk.told g.C.Clock.told g.S.Source.told g.O.Sink.told (g.C.Clock.moment c.args.clock.now) c.args.home.now.entries (g.O.Sink.taken c.args.out.now) (g.S.Source.remaining c.args.input.now) c.new-scanner.result c.new-scanner.ensures);
+      (record {
+        reading = (read_none (old.seen ≡ []) g.P.Disk.told g.C.Clock.told g.S.Source.told g.O.Sink.told (g.C.Clock.moment c.args.clock.now) c.args.home.now.entries (g.O.Sink.taken c.args.out.now) (g.S.Source.remaining c.args.input.now) c.new-scanner.result c.new-scanner.ensures).0;
+        left = λ told. rests_turns c.args.home.now old c.args.beat.now g.C.Clock.told (Unit {0}) (g.C.Clock.moment c.args.clock.now)
+            (events begin (read_none (old.seen ≡ []) g.P.Disk.told g.C.Clock.told g.S.Source.told g.O.Sink.told (g.C.Clock.moment c.args.clock.now) c.args.home.now.entries (g.O.Sink.taken c.args.out.now) (g.S.Source.remaining c.args.input.now) c.new-scanner.result c.new-scanner.ensures).0.read)
+            c.requires.legal (c.requires.home told) (c.requires.order told);
+      });
   clock = λ told. refl;
   order = c.requires.order;
   forward = omega arith;
@@ -41,26 +46,27 @@ finish-requires-in-Ok-None-next-clause-none g c = ended_after c.loop-i.last c.st
 pub returns-in-Ok-None-clause-ran : goal.returns-in-Ok-None-clause-ran
 returns-in-Ok-None-clause-ran g c =
     let small : c.loop-i._i ≤ most_input = omega arith in
-    finished_end g.P.Disk.told g.C.Clock.told g.S.Source.told g.O.Sink.told (g.C.Clock.moment c.args.clock.now) c.args.home.now.entries (g.O.Sink.taken c.args.out.now) (g.S.Source.remaining c.args.input.now)
-    (c.loop-i.reader ++ g.S.Source.remaining c.loop-i.input) c.loop-i._i c.loop-i.scanner c.loop-i.home (g.O.Sink.taken c.loop-i.out) c.loop-i.last c.loop-i.invariant.reading (g.S.Source.remaining c.next.new.input)
+    finished_end ((g.P.Disk.state c.args.journal.now).seen ≡ []) g.P.Disk.told g.C.Clock.told g.S.Source.told g.O.Sink.told (g.C.Clock.moment c.args.clock.now) c.args.home.now.entries (g.O.Sink.taken c.args.out.now) (g.S.Source.remaining c.args.input.now)
+    (c.loop-i.reader ++ g.S.Source.remaining c.loop-i.input) c.loop-i._i c.loop-i.scanner c.loop-i.home (g.O.Sink.taken c.loop-i.out) c.loop-i.last c.loop-i.invariant.safe.reading (g.S.Source.remaining c.next.new.input)
     (g.P.Disk.state c.loop-i.journal) c.loop-i.invariant.legal (λ told. (c.loop-i.invariant.goes told).is)
-    (g.C.Clock.moment c.loop-i.clock) c.loop-i.invariant.clock c.finish.new.home (g.P.Disk.state c.finish.new.journal) c.loop-i.beat c.finish.new.beat (g.O.Sink.taken c.finish.new.out) c.finish.result c.finish.ensures.goes c.finish.ensures.legal
+    ((g.P.Disk.state c.loop-i.journal).seen ≡ []) (λ told none. (c.loop-i.invariant.goes told).fresh none) (g.C.Clock.moment c.loop-i.clock) c.loop-i.invariant.clock c.finish.new.home (g.P.Disk.state c.finish.new.journal) c.loop-i.beat c.finish.new.beat (g.O.Sink.taken c.finish.new.out) c.finish.result c.finish.ensures.goes c.finish.ensures.legal
     small (λ told. subst (λ (o : Option ℕ). IsNextByte (c.loop-i.reader ++ g.S.Source.remaining c.loop-i.input) o (c.next.new.self ++ g.S.Source.remaining c.next.new.input)) c.in-Ok-None.field-0-is (c.in-Ok-None.ensures.byte told)) (events_of c.end.result) c.end.ensures c.status.result c.status.ensures (c.finish.ensures.finishes (was_refused c.loop-i.last))
 
 -- the input failed
 pub returns-in-Err-clause-ran : goal.returns-in-Err-clause-ran
 returns-in-Err-clause-ran g c =
-    source_failed g.P.Disk.told g.C.Clock.told g.S.Source.told g.O.Sink.told (g.C.Clock.moment c.args.clock.now) c.args.home.now.entries (g.O.Sink.taken c.args.out.now) (g.S.Source.remaining c.args.input.now)
-    (c.loop-i.reader ++ g.S.Source.remaining c.loop-i.input) c.loop-i._i c.loop-i.scanner c.loop-i.home (g.O.Sink.taken c.loop-i.out) c.loop-i.last c.loop-i.invariant.reading (g.S.Source.remaining c.next.new.input)
-    (g.P.Disk.state c.loop-i.journal) c.loop-i.invariant.legal (λ told. (c.loop-i.invariant.goes told).is) c.next.new.self c.in-Err.ensures.none (λ told. sym (c.in-Err.ensures.failed told))
+    let small : c.loop-i._i ≤ most_input = omega arith in
+    source_failed ((g.P.Disk.state c.args.journal.now).seen ≡ []) g.P.Disk.told g.C.Clock.told g.S.Source.told g.O.Sink.told (g.C.Clock.moment c.args.clock.now) c.args.home.now.entries (g.O.Sink.taken c.args.out.now) (g.S.Source.remaining c.args.input.now)
+    (c.loop-i.reader ++ g.S.Source.remaining c.loop-i.input) c.loop-i._i c.loop-i.scanner c.loop-i.home (g.O.Sink.taken c.loop-i.out) c.loop-i.last c.loop-i.invariant.safe.reading (g.S.Source.remaining c.next.new.input)
+    (g.P.Disk.state c.loop-i.journal) c.loop-i.invariant.legal (λ told. (c.loop-i.invariant.goes told).is) small c.next.new.self c.in-Err.ensures.none (λ told. sym (c.in-Err.ensures.failed told))
 
 -- a turn ended the run
 pub returns-in-Ok-Ends-clause-ran : goal.returns-in-Ok-Ends-clause-ran
 returns-in-Ok-Ends-clause-ran g c =
     let small : c.loop-i._i < most_input = omega arith in
-    byte_ends g.P.Disk.told g.C.Clock.told g.S.Source.told g.O.Sink.told (g.C.Clock.moment c.args.clock.now) c.args.home.now.entries (g.O.Sink.taken c.args.out.now) (g.S.Source.remaining c.args.input.now)
-    (c.loop-i.reader ++ g.S.Source.remaining c.loop-i.input) c.loop-i._i c.loop-i.scanner c.loop-i.home (g.O.Sink.taken c.loop-i.out) c.loop-i.last c.loop-i.invariant.reading (g.S.Source.remaining c.next.new.input)
-    c.in-Ok-Some.byte (c.next.new.self ++ g.S.Source.remaining c.next.new.input) (λ told. subst (λ (o : Option ℕ). IsNextByte (c.loop-i.reader ++ g.S.Source.remaining c.loop-i.input) o (c.next.new.self ++ g.S.Source.remaining c.next.new.input)) c.in-Ok-Some.field-0-is (c.in-Ok-Some.ensures.byte told)) (g.C.Clock.moment c.loop-i.clock) c.loop-i.invariant.clock
+    byte_ends ((g.P.Disk.state c.args.journal.now).seen ≡ []) g.P.Disk.told g.C.Clock.told g.S.Source.told g.O.Sink.told (g.C.Clock.moment c.args.clock.now) c.args.home.now.entries (g.O.Sink.taken c.args.out.now) (g.S.Source.remaining c.args.input.now)
+    (c.loop-i.reader ++ g.S.Source.remaining c.loop-i.input) c.loop-i._i c.loop-i.scanner c.loop-i.home (g.O.Sink.taken c.loop-i.out) c.loop-i.last c.loop-i.invariant.safe.reading (g.S.Source.remaining c.next.new.input)
+    c.in-Ok-Some.byte (c.next.new.self ++ g.S.Source.remaining c.next.new.input) (λ told. subst (λ (o : Option ℕ). IsNextByte (c.loop-i.reader ++ g.S.Source.remaining c.loop-i.input) o (c.next.new.self ++ g.S.Source.remaining c.next.new.input)) c.in-Ok-Some.field-0-is (c.in-Ok-Some.ensures.byte told)) ((g.P.Disk.state c.loop-i.journal).seen ≡ []) (λ told none. (c.loop-i.invariant.goes told).fresh none) (g.C.Clock.moment c.loop-i.clock) c.loop-i.invariant.clock
     (g.P.Disk.state c.byte_turn.new.journal) c.byte_turn.new.home (g.O.Sink.taken c.byte_turn.new.out) c.in-Ok-Ends.now c.status-in-Ok-Ends.result c.status-in-Ok-Ends.ensures small c.in-Ok-Ends.ensures.legal (λ told. (c.in-Ok-Ends.ensures.goes told).is) (subst (λ (f : Flow).
     Went g.P.Disk.told g.C.Clock.told g.O.Sink.told (g.C.Clock.moment c.loop-i.clock) (standing c.loop-i.home.entries (g.O.Sink.taken c.loop-i.out) (was_refused c.loop-i.last)) (scan_after c.loop-i.scanner c.in-Ok-Some.byte).1
     c.byte_turn.new.home.entries (g.O.Sink.taken c.byte_turn.new.out) f) c.in-Ok-Ends.field-0-is c.in-Ok-Ends.ensures.went)
@@ -69,77 +75,106 @@ returns-in-Ok-Ends-clause-ran g c =
 pub returns-in-Err-byte_turn-clause-ran : goal.returns-in-Err-byte_turn-clause-ran
 returns-in-Err-byte_turn-clause-ran g c =
     let small : c.loop-i._i < most_input = omega arith in
-    byte_halts g.P.Disk.told g.C.Clock.told g.S.Source.told g.O.Sink.told (g.C.Clock.moment c.args.clock.now) c.args.home.now.entries (g.O.Sink.taken c.args.out.now) (g.S.Source.remaining c.args.input.now)
-    (c.loop-i.reader ++ g.S.Source.remaining c.loop-i.input) c.loop-i._i c.loop-i.scanner c.loop-i.home (g.O.Sink.taken c.loop-i.out) c.loop-i.last c.loop-i.invariant.reading (g.S.Source.remaining c.next.new.input)
-    c.in-Ok-Some.byte (c.next.new.self ++ g.S.Source.remaining c.next.new.input) (λ told. subst (λ (o : Option ℕ). IsNextByte (c.loop-i.reader ++ g.S.Source.remaining c.loop-i.input) o (c.next.new.self ++ g.S.Source.remaining c.next.new.input)) c.in-Ok-Some.field-0-is (c.in-Ok-Some.ensures.byte told)) (g.C.Clock.moment c.loop-i.clock) c.loop-i.invariant.clock
+    byte_halts ((g.P.Disk.state c.args.journal.now).seen ≡ []) g.P.Disk.told g.C.Clock.told g.S.Source.told g.O.Sink.told (g.C.Clock.moment c.args.clock.now) c.args.home.now.entries (g.O.Sink.taken c.args.out.now) (g.S.Source.remaining c.args.input.now)
+    (c.loop-i.reader ++ g.S.Source.remaining c.loop-i.input) c.loop-i._i c.loop-i.scanner c.loop-i.home (g.O.Sink.taken c.loop-i.out) c.loop-i.last c.loop-i.invariant.safe.reading (g.S.Source.remaining c.next.new.input)
+    c.in-Ok-Some.byte (c.next.new.self ++ g.S.Source.remaining c.next.new.input) (λ told. subst (λ (o : Option ℕ). IsNextByte (c.loop-i.reader ++ g.S.Source.remaining c.loop-i.input) o (c.next.new.self ++ g.S.Source.remaining c.next.new.input)) c.in-Ok-Some.field-0-is (c.in-Ok-Some.ensures.byte told)) ((g.P.Disk.state c.loop-i.journal).seen ≡ []) (λ told none. (c.loop-i.invariant.goes told).fresh none) (g.C.Clock.moment c.loop-i.clock) c.loop-i.invariant.clock
     (g.P.Disk.state c.byte_turn.new.journal) (g.O.Sink.taken c.byte_turn.new.out) c.in-Err-byte_turn.status small c.in-Err-byte_turn.ensures.halted
 
 -- the input goes on behind what is read at most
 pub returns-in-Ok-Some-next-clause-ran : goal.returns-in-Ok-Some-next-clause-ran
 returns-in-Ok-Some-next-clause-ran g c =
     let full : c.loop-i._i ≡ most_input = omega arith in
-    finished_limit g.P.Disk.told g.C.Clock.told g.S.Source.told g.O.Sink.told (g.C.Clock.moment c.args.clock.now) c.args.home.now.entries (g.O.Sink.taken c.args.out.now) (g.S.Source.remaining c.args.input.now)
-    (c.loop-i.reader ++ g.S.Source.remaining c.loop-i.input) c.loop-i._i c.loop-i.scanner c.loop-i.home (g.O.Sink.taken c.loop-i.out) c.loop-i.last c.loop-i.invariant.reading (g.S.Source.remaining c.next-2.new.input)
+    finished_limit ((g.P.Disk.state c.args.journal.now).seen ≡ []) g.P.Disk.told g.C.Clock.told g.S.Source.told g.O.Sink.told (g.C.Clock.moment c.args.clock.now) c.args.home.now.entries (g.O.Sink.taken c.args.out.now) (g.S.Source.remaining c.args.input.now)
+    (c.loop-i.reader ++ g.S.Source.remaining c.loop-i.input) c.loop-i._i c.loop-i.scanner c.loop-i.home (g.O.Sink.taken c.loop-i.out) c.loop-i.last c.loop-i.invariant.safe.reading (g.S.Source.remaining c.next-2.new.input)
     (g.P.Disk.state c.loop-i.journal) c.loop-i.invariant.legal (λ told. (c.loop-i.invariant.goes told).is)
-    (g.C.Clock.moment c.loop-i.clock) c.loop-i.invariant.clock c.finish-in-Ok-Some-next.new.home (g.P.Disk.state c.finish-in-Ok-Some-next.new.journal) c.loop-i.beat c.finish-in-Ok-Some-next.new.beat (g.O.Sink.taken c.finish-in-Ok-Some-next.new.out) c.finish-in-Ok-Some-next.result c.finish-in-Ok-Some-next.ensures.goes c.finish-in-Ok-Some-next.ensures.legal
+    ((g.P.Disk.state c.loop-i.journal).seen ≡ []) (λ told none. (c.loop-i.invariant.goes told).fresh none) (g.C.Clock.moment c.loop-i.clock) c.loop-i.invariant.clock c.finish-in-Ok-Some-next.new.home (g.P.Disk.state c.finish-in-Ok-Some-next.new.journal) c.loop-i.beat c.finish-in-Ok-Some-next.new.beat (g.O.Sink.taken c.finish-in-Ok-Some-next.new.out) c.finish-in-Ok-Some-next.result c.finish-in-Ok-Some-next.ensures.goes c.finish-in-Ok-Some-next.ensures.legal
     full c.in-Ok-Some-next.field-0-0 (c.next-2.new.self ++ g.S.Source.remaining c.next-2.new.input) (λ told. subst (λ (o : Option ℕ). IsNextByte (c.loop-i.reader ++ g.S.Source.remaining c.loop-i.input) o (c.next-2.new.self ++ g.S.Source.remaining c.next-2.new.input)) c.in-Ok-Some-next.field-0-is (c.in-Ok-Some-next.ensures.byte told)) (events_of c.over.result) c.over.ensures (c.finish-in-Ok-Some-next.ensures.finishes (was_refused c.loop-i.last))
 
 -- it came to its end just there
 pub returns-in-Ok-None-next-clause-ran : goal.returns-in-Ok-None-next-clause-ran
 returns-in-Ok-None-next-clause-ran g c =
     let small : c.loop-i._i ≤ most_input = omega arith in
-    finished_end g.P.Disk.told g.C.Clock.told g.S.Source.told g.O.Sink.told (g.C.Clock.moment c.args.clock.now) c.args.home.now.entries (g.O.Sink.taken c.args.out.now) (g.S.Source.remaining c.args.input.now)
-    (c.loop-i.reader ++ g.S.Source.remaining c.loop-i.input) c.loop-i._i c.loop-i.scanner c.loop-i.home (g.O.Sink.taken c.loop-i.out) c.loop-i.last c.loop-i.invariant.reading (g.S.Source.remaining c.next-2.new.input)
+    finished_end ((g.P.Disk.state c.args.journal.now).seen ≡ []) g.P.Disk.told g.C.Clock.told g.S.Source.told g.O.Sink.told (g.C.Clock.moment c.args.clock.now) c.args.home.now.entries (g.O.Sink.taken c.args.out.now) (g.S.Source.remaining c.args.input.now)
+    (c.loop-i.reader ++ g.S.Source.remaining c.loop-i.input) c.loop-i._i c.loop-i.scanner c.loop-i.home (g.O.Sink.taken c.loop-i.out) c.loop-i.last c.loop-i.invariant.safe.reading (g.S.Source.remaining c.next-2.new.input)
     (g.P.Disk.state c.loop-i.journal) c.loop-i.invariant.legal (λ told. (c.loop-i.invariant.goes told).is)
-    (g.C.Clock.moment c.loop-i.clock) c.loop-i.invariant.clock c.finish-in-Ok-None-next.new.home (g.P.Disk.state c.finish-in-Ok-None-next.new.journal) c.loop-i.beat c.finish-in-Ok-None-next.new.beat (g.O.Sink.taken c.finish-in-Ok-None-next.new.out) c.finish-in-Ok-None-next.result c.finish-in-Ok-None-next.ensures.goes c.finish-in-Ok-None-next.ensures.legal
+    ((g.P.Disk.state c.loop-i.journal).seen ≡ []) (λ told none. (c.loop-i.invariant.goes told).fresh none) (g.C.Clock.moment c.loop-i.clock) c.loop-i.invariant.clock c.finish-in-Ok-None-next.new.home (g.P.Disk.state c.finish-in-Ok-None-next.new.journal) c.loop-i.beat c.finish-in-Ok-None-next.new.beat (g.O.Sink.taken c.finish-in-Ok-None-next.new.out) c.finish-in-Ok-None-next.result c.finish-in-Ok-None-next.ensures.goes c.finish-in-Ok-None-next.ensures.legal
     small (λ told. subst (λ (o : Option ℕ). IsNextByte (c.loop-i.reader ++ g.S.Source.remaining c.loop-i.input) o (c.next-2.new.self ++ g.S.Source.remaining c.next-2.new.input)) c.in-Ok-None-next.field-0-is (c.in-Ok-None-next.ensures.byte told)) (events_of c.end-in-Ok-None-next.result) c.end-in-Ok-None-next.ensures c.status-in-Ok-None-next.result c.status-in-Ok-None-next.ensures (c.finish-in-Ok-None-next.ensures.finishes (was_refused c.loop-i.last))
 
 -- it failed just there
 pub returns-clause-ran : goal.returns-clause-ran
 returns-clause-ran g c =
-    source_failed g.P.Disk.told g.C.Clock.told g.S.Source.told g.O.Sink.told (g.C.Clock.moment c.args.clock.now) c.args.home.now.entries (g.O.Sink.taken c.args.out.now) (g.S.Source.remaining c.args.input.now)
-    (c.loop-i.reader ++ g.S.Source.remaining c.loop-i.input) c.loop-i._i c.loop-i.scanner c.loop-i.home (g.O.Sink.taken c.loop-i.out) c.loop-i.last c.loop-i.invariant.reading (g.S.Source.remaining c.next-2.new.input)
-    (g.P.Disk.state c.loop-i.journal) c.loop-i.invariant.legal (λ told. (c.loop-i.invariant.goes told).is) c.next-2.new.self c.in-Err-next.ensures.none (λ told. sym (c.in-Err-next.ensures.failed told))
+    let small : c.loop-i._i ≤ most_input = omega arith in
+    source_failed ((g.P.Disk.state c.args.journal.now).seen ≡ []) g.P.Disk.told g.C.Clock.told g.S.Source.told g.O.Sink.told (g.C.Clock.moment c.args.clock.now) c.args.home.now.entries (g.O.Sink.taken c.args.out.now) (g.S.Source.remaining c.args.input.now)
+    (c.loop-i.reader ++ g.S.Source.remaining c.loop-i.input) c.loop-i._i c.loop-i.scanner c.loop-i.home (g.O.Sink.taken c.loop-i.out) c.loop-i.last c.loop-i.invariant.safe.reading (g.S.Source.remaining c.next-2.new.input)
+    (g.P.Disk.state c.loop-i.journal) c.loop-i.invariant.legal (λ told. (c.loop-i.invariant.goes told).is) small c.next-2.new.self c.in-Err-next.ensures.none (λ told. sym (c.in-Err-next.ensures.failed told))
 
+-- what a crash may have left
 pub returns-in-Ok-None-clause-moments : goal.returns-in-Ok-None-clause-moments
 returns-in-Ok-None-clause-moments g c = λ told.
-    moments_behind c.args.home.now.entries (g.P.Disk.state c.args.journal.now) (g.P.Disk.state c.loop-i.journal) (g.P.Disk.state c.finish.new.journal) c.args.beat.now c.loop-i.beat c.loop-i.home (c.loop-i.invariant.goes told) (c.finish.ensures.moments told)
-
-pub returns-in-Ok-Some-next-clause-moments : goal.returns-in-Ok-Some-next-clause-moments
-returns-in-Ok-Some-next-clause-moments g c = λ told.
-    moments_behind c.args.home.now.entries (g.P.Disk.state c.args.journal.now) (g.P.Disk.state c.loop-i.journal) (g.P.Disk.state c.finish-in-Ok-Some-next.new.journal) c.args.beat.now c.loop-i.beat c.loop-i.home (c.loop-i.invariant.goes told) (c.finish-in-Ok-Some-next.ensures.moments told)
+    let small : c.loop-i._i ≤ most_input = omega arith in
+    left_end ((g.P.Disk.state c.args.journal.now).seen ≡ []) g.P.Disk.told g.C.Clock.told g.S.Source.told g.O.Sink.told (g.C.Clock.moment c.args.clock.now) c.args.home.now.entries (g.O.Sink.taken c.args.out.now) (g.S.Source.remaining c.args.input.now)
+    (c.loop-i.reader ++ g.S.Source.remaining c.loop-i.input) c.loop-i._i c.loop-i.scanner c.loop-i.home.entries (g.O.Sink.taken c.loop-i.out) c.loop-i.last (g.P.Disk.state c.args.journal.now) (g.P.Disk.state c.loop-i.journal) c.args.beat.now c.loop-i.invariant.safe told (g.P.Disk.state c.finish.new.journal) c.loop-i.beat c.loop-i.invariant.forward ((g.P.Disk.state c.loop-i.journal).seen ≡ []) (λ none. (c.loop-i.invariant.goes told).fresh none) (g.C.Clock.moment c.loop-i.clock) c.loop-i.invariant.clock
+    small (λ t. subst (λ (o : Option ℕ). IsNextByte (c.loop-i.reader ++ g.S.Source.remaining c.loop-i.input) o (c.next.new.self ++ g.S.Source.remaining c.next.new.input)) c.in-Ok-None.field-0-is (c.in-Ok-None.ensures.byte t)) (events_of c.end.result) c.end.ensures (c.finish.ensures.moments told)
 
 pub returns-in-Ok-None-next-clause-moments : goal.returns-in-Ok-None-next-clause-moments
 returns-in-Ok-None-next-clause-moments g c = λ told.
-    moments_behind c.args.home.now.entries (g.P.Disk.state c.args.journal.now) (g.P.Disk.state c.loop-i.journal) (g.P.Disk.state c.finish-in-Ok-None-next.new.journal) c.args.beat.now c.loop-i.beat c.loop-i.home (c.loop-i.invariant.goes told) (c.finish-in-Ok-None-next.ensures.moments told)
+    let small : c.loop-i._i ≤ most_input = omega arith in
+    left_end ((g.P.Disk.state c.args.journal.now).seen ≡ []) g.P.Disk.told g.C.Clock.told g.S.Source.told g.O.Sink.told (g.C.Clock.moment c.args.clock.now) c.args.home.now.entries (g.O.Sink.taken c.args.out.now) (g.S.Source.remaining c.args.input.now)
+    (c.loop-i.reader ++ g.S.Source.remaining c.loop-i.input) c.loop-i._i c.loop-i.scanner c.loop-i.home.entries (g.O.Sink.taken c.loop-i.out) c.loop-i.last (g.P.Disk.state c.args.journal.now) (g.P.Disk.state c.loop-i.journal) c.args.beat.now c.loop-i.invariant.safe told (g.P.Disk.state c.finish-in-Ok-None-next.new.journal) c.loop-i.beat c.loop-i.invariant.forward ((g.P.Disk.state c.loop-i.journal).seen ≡ []) (λ none. (c.loop-i.invariant.goes told).fresh none) (g.C.Clock.moment c.loop-i.clock) c.loop-i.invariant.clock
+    small (λ t. subst (λ (o : Option ℕ). IsNextByte (c.loop-i.reader ++ g.S.Source.remaining c.loop-i.input) o (c.next-2.new.self ++ g.S.Source.remaining c.next-2.new.input)) c.in-Ok-None-next.field-0-is (c.in-Ok-None-next.ensures.byte t)) (events_of c.end-in-Ok-None-next.result) c.end-in-Ok-None-next.ensures (c.finish-in-Ok-None-next.ensures.moments told)
+
+pub returns-in-Ok-Some-next-clause-moments : goal.returns-in-Ok-Some-next-clause-moments
+returns-in-Ok-Some-next-clause-moments g c = λ told.
+    let full : c.loop-i._i ≡ most_input = omega arith in
+    left_limit ((g.P.Disk.state c.args.journal.now).seen ≡ []) g.P.Disk.told g.C.Clock.told g.S.Source.told g.O.Sink.told (g.C.Clock.moment c.args.clock.now) c.args.home.now.entries (g.O.Sink.taken c.args.out.now) (g.S.Source.remaining c.args.input.now)
+    (c.loop-i.reader ++ g.S.Source.remaining c.loop-i.input) c.loop-i._i c.loop-i.scanner c.loop-i.home.entries (g.O.Sink.taken c.loop-i.out) c.loop-i.last (g.P.Disk.state c.args.journal.now) (g.P.Disk.state c.loop-i.journal) c.args.beat.now c.loop-i.invariant.safe told (g.P.Disk.state c.finish-in-Ok-Some-next.new.journal) c.loop-i.beat c.loop-i.invariant.forward ((g.P.Disk.state c.loop-i.journal).seen ≡ []) (λ none. (c.loop-i.invariant.goes told).fresh none) (g.C.Clock.moment c.loop-i.clock) c.loop-i.invariant.clock
+    full c.in-Ok-Some-next.field-0-0 (c.next-2.new.self ++ g.S.Source.remaining c.next-2.new.input) (λ t. subst (λ (o : Option ℕ). IsNextByte (c.loop-i.reader ++ g.S.Source.remaining c.loop-i.input) o (c.next-2.new.self ++ g.S.Source.remaining c.next-2.new.input)) c.in-Ok-Some-next.field-0-is (c.in-Ok-Some-next.ensures.byte t)) (events_of c.over.result) c.over.ensures (c.finish-in-Ok-Some-next.ensures.moments told)
 
 pub returns-in-Err-byte_turn-clause-moments : goal.returns-in-Err-byte_turn-clause-moments
 returns-in-Err-byte_turn-clause-moments g c = λ told.
-    moments_behind c.args.home.now.entries (g.P.Disk.state c.args.journal.now) (g.P.Disk.state c.loop-i.journal) (g.P.Disk.state c.byte_turn.new.journal) c.args.beat.now c.loop-i.beat c.loop-i.home (c.loop-i.invariant.goes told) (c.in-Err-byte_turn.ensures.moments told)
+    let small : c.loop-i._i < most_input = omega arith in
+    left_byte ((g.P.Disk.state c.args.journal.now).seen ≡ []) g.P.Disk.told g.C.Clock.told g.S.Source.told g.O.Sink.told (g.C.Clock.moment c.args.clock.now) c.args.home.now.entries (g.O.Sink.taken c.args.out.now) (g.S.Source.remaining c.args.input.now)
+    (c.loop-i.reader ++ g.S.Source.remaining c.loop-i.input) c.loop-i._i c.loop-i.scanner c.loop-i.home.entries (g.O.Sink.taken c.loop-i.out) c.loop-i.last (g.P.Disk.state c.args.journal.now) (g.P.Disk.state c.loop-i.journal) c.args.beat.now c.loop-i.invariant.safe told (g.P.Disk.state c.byte_turn.new.journal) c.loop-i.beat c.loop-i.invariant.forward ((g.P.Disk.state c.loop-i.journal).seen ≡ []) (λ none. (c.loop-i.invariant.goes told).fresh none) (g.C.Clock.moment c.loop-i.clock) c.loop-i.invariant.clock
+    c.in-Ok-Some.byte (c.next.new.self ++ g.S.Source.remaining c.next.new.input) (λ t. subst (λ (o : Option ℕ). IsNextByte (c.loop-i.reader ++ g.S.Source.remaining c.loop-i.input) o (c.next.new.self ++ g.S.Source.remaining c.next.new.input)) c.in-Ok-Some.field-0-is (c.in-Ok-Some.ensures.byte t)) (c.byte_turn.ensures.moments told) small
 
 pub returns-in-Ok-Ends-clause-moments : goal.returns-in-Ok-Ends-clause-moments
 returns-in-Ok-Ends-clause-moments g c = λ told.
-    moments_behind c.args.home.now.entries (g.P.Disk.state c.args.journal.now) (g.P.Disk.state c.loop-i.journal) (g.P.Disk.state c.byte_turn.new.journal) c.args.beat.now c.loop-i.beat c.loop-i.home (c.loop-i.invariant.goes told) (c.in-Ok-Ends.ensures.goes told).moments
+    let small : c.loop-i._i < most_input = omega arith in
+    left_byte ((g.P.Disk.state c.args.journal.now).seen ≡ []) g.P.Disk.told g.C.Clock.told g.S.Source.told g.O.Sink.told (g.C.Clock.moment c.args.clock.now) c.args.home.now.entries (g.O.Sink.taken c.args.out.now) (g.S.Source.remaining c.args.input.now)
+    (c.loop-i.reader ++ g.S.Source.remaining c.loop-i.input) c.loop-i._i c.loop-i.scanner c.loop-i.home.entries (g.O.Sink.taken c.loop-i.out) c.loop-i.last (g.P.Disk.state c.args.journal.now) (g.P.Disk.state c.loop-i.journal) c.args.beat.now c.loop-i.invariant.safe told (g.P.Disk.state c.byte_turn.new.journal) c.loop-i.beat c.loop-i.invariant.forward ((g.P.Disk.state c.loop-i.journal).seen ≡ []) (λ none. (c.loop-i.invariant.goes told).fresh none) (g.C.Clock.moment c.loop-i.clock) c.loop-i.invariant.clock
+    c.in-Ok-Some.byte (c.next.new.self ++ g.S.Source.remaining c.next.new.input) (λ t. subst (λ (o : Option ℕ). IsNextByte (c.loop-i.reader ++ g.S.Source.remaining c.loop-i.input) o (c.next.new.self ++ g.S.Source.remaining c.next.new.input)) c.in-Ok-Some.field-0-is (c.in-Ok-Some.ensures.byte t)) (c.byte_turn.ensures.moments told) small
 
 pub returns-in-Err-clause-moments : goal.returns-in-Err-clause-moments
-returns-in-Err-clause-moments g c = λ told. (c.loop-i.invariant.goes told).moments
+returns-in-Err-clause-moments g c = λ told.
+    let small : c.loop-i._i ≤ most_input = omega arith in
+    left_read ((g.P.Disk.state c.args.journal.now).seen ≡ []) g.P.Disk.told g.C.Clock.told g.S.Source.told g.O.Sink.told (g.C.Clock.moment c.args.clock.now) c.args.home.now.entries (g.O.Sink.taken c.args.out.now) (g.S.Source.remaining c.args.input.now)
+    (c.loop-i.reader ++ g.S.Source.remaining c.loop-i.input) c.loop-i._i c.loop-i.scanner c.loop-i.home.entries (g.O.Sink.taken c.loop-i.out) c.loop-i.last (g.P.Disk.state c.args.journal.now) (g.P.Disk.state c.loop-i.journal) c.args.beat.now c.loop-i.invariant.safe told small
 
 pub returns-clause-moments : goal.returns-clause-moments
-returns-clause-moments g c = λ told. (c.loop-i.invariant.goes told).moments
+returns-clause-moments g c = λ told.
+    let small : c.loop-i._i ≤ most_input = omega arith in
+    left_read ((g.P.Disk.state c.args.journal.now).seen ≡ []) g.P.Disk.told g.C.Clock.told g.S.Source.told g.O.Sink.told (g.C.Clock.moment c.args.clock.now) c.args.home.now.entries (g.O.Sink.taken c.args.out.now) (g.S.Source.remaining c.args.input.now)
+    (c.loop-i.reader ++ g.S.Source.remaining c.loop-i.input) c.loop-i._i c.loop-i.scanner c.loop-i.home.entries (g.O.Sink.taken c.loop-i.out) c.loop-i.last (g.P.Disk.state c.args.journal.now) (g.P.Disk.state c.loop-i.journal) c.args.beat.now c.loop-i.invariant.safe told small
 
 pub loop-i-preserved : goal.loop-i-preserved
 loop-i-preserved g c =
     let e = c.in-Ok-Goes.ensures in
+    let one = byte_read ((g.P.Disk.state c.args.journal.now).seen ≡ []) g.P.Disk.told g.C.Clock.told g.S.Source.told g.O.Sink.told (g.C.Clock.moment c.args.clock.now) c.args.home.now.entries (g.O.Sink.taken c.args.out.now) (g.S.Source.remaining c.args.input.now)
+    (c.loop-i.reader ++ g.S.Source.remaining c.loop-i.input) c.loop-i._i c.loop-i.scanner c.loop-i.home (g.O.Sink.taken c.loop-i.out) c.loop-i.last c.loop-i.invariant.safe.reading (g.S.Source.remaining c.next.new.input)
+    c.in-Ok-Some.byte (c.next.new.self ++ g.S.Source.remaining c.next.new.input) (λ told. subst (λ (o : Option ℕ). IsNextByte (c.loop-i.reader ++ g.S.Source.remaining c.loop-i.input) o (c.next.new.self ++ g.S.Source.remaining c.next.new.input)) c.in-Ok-Some.field-0-is (c.in-Ok-Some.ensures.byte told)) ((g.P.Disk.state c.loop-i.journal).seen ≡ []) (λ told none. (c.loop-i.invariant.goes told).fresh none) (g.C.Clock.moment c.loop-i.clock) c.loop-i.invariant.clock
+    c.byte_turn.new.scanner c.byte_turn.new.home.entries (g.O.Sink.taken c.byte_turn.new.out) c.in-Ok-Goes.now e.scanner (subst (λ (f : Flow).
+    Went g.P.Disk.told g.C.Clock.told g.O.Sink.told (g.C.Clock.moment c.loop-i.clock) (standing c.loop-i.home.entries (g.O.Sink.taken c.loop-i.out) (was_refused c.loop-i.last)) (scan_after c.loop-i.scanner c.in-Ok-Some.byte).1
+    c.byte_turn.new.home.entries (g.O.Sink.taken c.byte_turn.new.out) f) c.in-Ok-Goes.field-0-is c.in-Ok-Goes.ensures.went) in
     record {
       legal = e.legal;
       sound = e.sound;
       goes = λ told. gone_then c.args.home.now.entries (g.P.Disk.state c.args.journal.now) (g.P.Disk.state c.loop-i.journal) (g.P.Disk.state c.byte_turn.new.journal) c.args.beat.now c.loop-i.beat c.byte_turn.new.beat c.loop-i.home c.byte_turn.new.home (c.loop-i.invariant.goes told) (e.goes told);
-      reading = byte_read g.P.Disk.told g.C.Clock.told g.S.Source.told g.O.Sink.told (g.C.Clock.moment c.args.clock.now) c.args.home.now.entries (g.O.Sink.taken c.args.out.now) (g.S.Source.remaining c.args.input.now)
-          (c.loop-i.reader ++ g.S.Source.remaining c.loop-i.input) c.loop-i._i c.loop-i.scanner c.loop-i.home (g.O.Sink.taken c.loop-i.out) c.loop-i.last c.loop-i.invariant.reading (g.S.Source.remaining c.next.new.input)
-          c.in-Ok-Some.byte (c.next.new.self ++ g.S.Source.remaining c.next.new.input) (λ told. subst (λ (o : Option ℕ). IsNextByte (c.loop-i.reader ++ g.S.Source.remaining c.loop-i.input) o (c.next.new.self ++ g.S.Source.remaining c.next.new.input)) c.in-Ok-Some.field-0-is (c.in-Ok-Some.ensures.byte told)) (g.C.Clock.moment c.loop-i.clock) c.loop-i.invariant.clock
-          c.byte_turn.new.scanner c.byte_turn.new.home.entries (g.O.Sink.taken c.byte_turn.new.out) c.in-Ok-Goes.now e.scanner (subst (λ (f : Flow).
-          Went g.P.Disk.told g.C.Clock.told g.O.Sink.told (g.C.Clock.moment c.loop-i.clock) (standing c.loop-i.home.entries (g.O.Sink.taken c.loop-i.out) (was_refused c.loop-i.last)) (scan_after c.loop-i.scanner c.in-Ok-Some.byte).1
-          c.byte_turn.new.home.entries (g.O.Sink.taken c.byte_turn.new.out) f) c.in-Ok-Goes.field-0-is c.in-Ok-Goes.ensures.went);
+      safe = record {
+        reading = one.0;
+        left = λ told. left_more ((g.P.Disk.state c.args.journal.now).seen ≡ []) g.P.Disk.told g.C.Clock.told g.S.Source.told g.O.Sink.told (g.C.Clock.moment c.args.clock.now) c.args.home.now.entries (g.O.Sink.taken c.args.out.now) (g.S.Source.remaining c.args.input.now)
+            (c.loop-i.reader ++ g.S.Source.remaining c.loop-i.input) c.loop-i._i c.loop-i.scanner c.loop-i.home.entries (g.O.Sink.taken c.loop-i.out) c.loop-i.last (g.P.Disk.state c.args.journal.now) (g.P.Disk.state c.loop-i.journal) c.args.beat.now c.loop-i.invariant.safe told (g.P.Disk.state c.byte_turn.new.journal) c.loop-i.beat c.loop-i.invariant.forward ((g.P.Disk.state c.loop-i.journal).seen ≡ []) (λ none. (c.loop-i.invariant.goes told).fresh none) (g.C.Clock.moment c.loop-i.clock) c.loop-i.invariant.clock
+            c.in-Ok-Some.byte (c.next.new.self ++ g.S.Source.remaining c.next.new.input) (λ t. subst (λ (o : Option ℕ). IsNextByte (c.loop-i.reader ++ g.S.Source.remaining c.loop-i.input) o (c.next.new.self ++ g.S.Source.remaining c.next.new.input)) c.in-Ok-Some.field-0-is (c.in-Ok-Some.ensures.byte t)) (c.byte_turn.ensures.moments told) one.0.read one.1;
+      };
       clock = λ told. e.clock told ∙ c.loop-i.invariant.clock told;
       order = e.order;
       forward = let x = e.beat in let y = c.loop-i.invariant.forward in omega arith;
