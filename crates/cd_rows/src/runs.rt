@@ -141,6 +141,22 @@ fn a_journal_that_is_not_fit(rt: HostRuntime) -> Result<(), Fail> {
     Ok(())
 }
 
+// The worked journal with a start in the card of its Process, which its text doesn't say. The body is longer by the moment.
+#[test]
+fn a_start_in_a_card_is_not_compared(rt: HostRuntime) -> Result<(), Fail> {
+    let mut bytes = Vec::from_slice(rt.alloc(), &JOURNAL[..32])?;
+    bytes.push(0xb0)?;
+    bytes.extend_from_slice(&JOURNAL[33..59])?;
+    bytes.extend_from_slice(b"\x01\0\0\0\0\0\0\0\x07")?;
+    bytes.extend_from_slice(&JOURNAL[60..])?;
+    let mut machine = Machine::new(rt.alloc(), &bytes)?;
+    let ran = machine.run(SUBMIT)?;
+    assert_eq!(rt; ran.out.bytes(), b"PROCESS 2 SUBMITTED\n".as_slice());
+    assert_eq!(rt; ran.status, Status::Done);
+    assert_eq!(rt; machine.bytes().len(), 383);
+    Ok(())
+}
+
 #[test]
 fn a_word_is_not_taken(rt: HostRuntime) -> Result<(), Fail> {
     let none = FaultScript::new(Vec::new(rt.alloc()));

@@ -159,6 +159,7 @@ submission_next entries now snode process legal kept partner named room =
       room = room;
       later = omega arith;
       once = tt;
+      short = kept.short;
       canonical = card_read snode process kept partner;
     }
 

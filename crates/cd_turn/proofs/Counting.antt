@@ -6,10 +6,10 @@ use Rattle.cd_entries.specs.declared.entry.Entry.{Entry}
 use Rattle.cd_turn.specs.Counts.{AreCounts}
 use Rattle.cd_turn.specs.Entries.{is_submission, submitted_in, moment_of, latest_in}
 
-submitted-push : (entries : List Entry) (e : Entry) → submitted_in (entries ++ e ∷ []) ≡ submitted_in entries + cond (is_submission e) 1 0
+pub submitted-push : (entries : List Entry) (e : Entry) → submitted_in (entries ++ e ∷ []) ≡ submitted_in entries + cond (is_submission e) 1 0
 submitted-push entries e = sum_by-append (λ x. cond (is_submission x) 1 0) entries (e ∷ []) ∙ ap (λ (n : ℕ). submitted_in entries + n) (zero-add (cond (is_submission e) 1 0))
 
-latest-push : (entries : List Entry) (e : Entry) → latest_in (entries ++ e ∷ []) ≡ max (latest_in entries) (moment_of e)
+pub latest-push : (entries : List Entry) (e : Entry) → latest_in (entries ++ e ∷ []) ≡ max (latest_in entries) (moment_of e)
 latest-push entries e = fold-append (λ latest x. max latest (moment_of x)) 0 entries (e ∷ [])
 
 -- the counts with the entry

@@ -13,7 +13,7 @@ use Rattle.cd_entries.specs.declared.entry.Entry.{Entry}
 use Rattle.cd_entries.specs.declared.entry.Entry.TheVariants as entry
 use Rattle.cd_turn.specs.Entries.{submitted_in, live_in, latest_in, origin_of}
 use Rattle.cd_turn.specs.Legal.{IsNext, IsSubmission}
-use Rattle.cd_turn.specs.Texts.{card_in, IsText}
+use Rattle.cd_turn.specs.Texts.{card_in, without_start, IsText}
 
 abbrev Decided : Type 0 → Type 0
 Decided P = P ⊎ (P → ⊥)
@@ -131,7 +131,7 @@ found_is None c = inr (λ e. cc)
 found_is (Some kept) c = carry (kept ≡ c) (Some kept ≡ Some c) (λ e. ap (λ (f : Filed). Some f) e) (λ e. cc) (card_is kept c)
 
 text_is : (c : Filed) (text : List ℕ) → Decided (IsText c text)
-text_is c text = found_is (card_in text) c
+text_is c text = found_is (card_in text) (without_start c)
 
 some_before : (entries : List Entry) → Decided (entries ≢ [])
 some_before [] = inr (λ some. some refl)
@@ -144,11 +144,11 @@ none_before (e ∷ entries) = inr (λ none. cc)
 submission_is : (entries : List Entry) (number moment : ℕ) (origin : Option Key) (c : Filed) (text : List ℕ) → Decided (IsSubmission entries number moment origin c text)
 submission_is entries number moment origin c text =
     carry
-    ((entries ≢ []) × ((number ≡ submitted_in entries + 1) × ((number ≤ 99999) × ((live_in entries < 4096) × ((latest_in entries ≤ moment) × (IsOnce entries origin × IsText c text))))))
+    ((entries ≢ []) × ((number ≡ submitted_in entries + 1) × ((number ≤ 99999) × ((live_in entries < 4096) × ((latest_in entries ≤ moment) × (IsOnce entries origin × ((length text ≤ 200000) × IsText c text)))))))
     (IsSubmission entries number moment origin c text)
-    (λ h. record { begun = h.0; next = h.1.0; last = h.1.1.0; room = h.1.1.1.0; later = h.1.1.1.1.0; once = h.1.1.1.1.1.0; canonical = h.1.1.1.1.1.1 })
-    (λ is. (is.begun, (is.next, (is.last, (is.room, (is.later, (is.once, is.canonical)))))))
-    (both _ _ (some_before entries) (both _ _ (number_is number (submitted_in entries + 1)) (both _ _ (at_most number 99999) (both _ _ (below (live_in entries) 4096) (both _ _ (at_most (latest_in entries) moment) (both _ _ (once_is entries origin) (text_is c text)))))))
+    (λ h. record { begun = h.0; next = h.1.0; last = h.1.1.0; room = h.1.1.1.0; later = h.1.1.1.1.0; once = h.1.1.1.1.1.0; short = h.1.1.1.1.1.1.0; canonical = h.1.1.1.1.1.1.1 })
+    (λ is. (is.begun, (is.next, (is.last, (is.room, (is.later, (is.once, (is.short, is.canonical))))))))
+    (both _ _ (some_before entries) (both _ _ (number_is number (submitted_in entries + 1)) (both _ _ (at_most number 99999) (both _ _ (below (live_in entries) 4096) (both _ _ (at_most (latest_in entries) moment) (both _ _ (once_is entries origin) (both _ _ (at_most (length text) 200000) (text_is c text))))))))
 
 pub next_is : (entries : List Entry) (e : Entry) → IsNext entries e ⊎ (IsNext entries e → ⊥)
 next_is entries (entry.Home name home) = none_before entries

@@ -11,3 +11,4 @@ pub mod Fitting
 pub mod BodyBytes
 pub mod Deciding
 pub mod Fit
+pub mod Agreeing

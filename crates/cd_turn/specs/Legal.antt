@@ -1,6 +1,6 @@
 -- Which entries may follow which. Today a journal has the entries of a home and of its submissions; an entry of another
 -- kind is none yet.
-use Rattle.std.specs.Prelude.{◌≡◌, ◌≢◌, ℕ, ◌+◌, ◌<◌, ◌≤◌, List, [], ◌∷◌, ◌++◌, Option, Some, None, All, IfSome}
+use Rattle.std.specs.Prelude.{◌≡◌, ◌≢◌, ℕ, ◌+◌, ◌<◌, ◌≤◌, List, [], ◌∷◌, ◌++◌, length, Option, Some, None, All, IfSome}
 use Rattle.cd_types.specs.declared.key.Key.{Key}
 use Rattle.cd_types.specs.declared.card.Filed.{Filed}
 use Rattle.cd_entries.specs.declared.entry.Entry.{Entry}
@@ -22,6 +22,7 @@ pub record IsSubmission (entries : List Entry) (number moment : ℕ) (origin : O
   pub later : latest_in entries ≤ moment
   -- no step submits twice
   pub once : IfSome origin (λ key. All (λ e. origin_of e ≢ Some key) entries)
+  pub short : length text ≤ 200000
   pub canonical : IsText card text
 
 -- this entry may follow these

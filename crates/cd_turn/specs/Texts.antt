@@ -24,6 +24,10 @@ push_card (Some process) = if is_push (Some default_interval) process then filed
 unfoldable pub card_in : List ℕ → Option Filed
 card_in text = push_card (canonical_reading text)
 
--- the text is the canonical one of a Process that is built, and the card is that Process's
+-- a card without its start
+abbrev pub without_start : Filed → Filed
+without_start card = record card { start = None }
+
+-- the text is the canonical one of a Process that is built, and the card is that Process's; of its start nothing is asked
 abbrev pub IsText : Filed → List ℕ → Type 0
-IsText card text = card_in text ≡ Some card
+IsText card text = card_in text ≡ Some (without_start card)

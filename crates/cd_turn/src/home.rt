@@ -12,7 +12,7 @@ ghost use Rattle.cd_turn.specs.Counts.{AreCounts};
 ghost use Rattle.cd_turn.specs.Entries.{is_submission, submitted_in, live_in, moment_of, latest_in, origin_of};
 ghost use Rattle.cd_turn.specs.Home.{StandsFor, IsHome, IsBad, HasBad, IsUnfit};
 ghost use Rattle.cd_turn.specs.Legal.{IsNext, IsLegal, IsSubmission};
-ghost use Rattle.cd_turn.specs.Texts.{card_for, filed_card, push_card, card_in, IsText};
+ghost use Rattle.cd_turn.specs.Texts.{card_for, filed_card, push_card, card_in, without_start, IsText};
 
 use cd_ast::Process;
 use cd_book::Texts;
@@ -27,6 +27,9 @@ use std::marker::Model;
 
 /// The most Processes that may be live.
 pub const MOST_LIVE: u32 = 4096;
+
+/// The most bytes of a Process's canonical text.
+const LONGEST_TEXT: usize = 200_000;
 
 /// The entries of a journal, which isn't held but handed to each call with its disk. It counts what is asked of them often.
 /// Contracts see the journal and the entries.
@@ -109,11 +112,11 @@ fn are_same(a: &[u8], b: &[u8]) -> bool
     a == b
 }
 
-// Whether two cards without a start of their own say the same.
+// Whether a card says, but for its start, the same as one without a start.
 fn same_card(a: &Filed, b: &Filed) -> bool
     requires { b.now.start ≡ None }
-    ensures yes { IsTrue result → a.now ≡ b.now }
-    ensures only { a.now ≡ b.now → IsTrue result }
+    ensures yes { IsTrue result → without_start a.now ≡ b.now }
+    ensures only { without_start a.now ≡ b.now → IsTrue result }
 {
     if !are_same(a.name.as_bytes(), b.name.as_bytes()) {
         return false;
@@ -121,13 +124,13 @@ fn same_card(a: &Filed, b: &Filed) -> bool
     if !are_same(a.snode.as_bytes(), b.snode.as_bytes()) {
         return false;
     }
-    if a.prty != b.prty || a.class != b.class || a.start.is_some() {
+    if a.prty != b.prty || a.class != b.class {
         return false;
     }
     a.hold == b.hold && a.retain == b.retain
 }
 
-// Whether the text is the canonical one of a Process whose card this is.
+// Whether the text is the canonical one of a Process whose card this is, but for a start.
 fn is_text(alloc: Global, card: &Filed, text: &[u8]) -> Result<bool, NoMemory>
     ensures yes { IfOk result (λ is. IsTrue is → IsText card.now text.now) }
     ensures only { IfOk result (λ is. IsText card.now text.now → IsTrue is) }
@@ -251,6 +254,9 @@ impl Home {
             return Ok(false);
         }
         if moment.seconds() < self.latest {
+            return Ok(false);
+        }
+        if text.len() > LONGEST_TEXT {
             return Ok(false);
         }
         if !is_new(&self.entries, origin) {

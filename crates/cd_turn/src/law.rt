@@ -1,9 +1,14 @@
-//! What holds of the bytes of every journal.
-ghost use Rattle.std.specs.Prelude.{◌≡◌, ◌⊎◌, ℕ, List, []};
+//! What holds of the bytes of every journal, and of its entries.
+ghost use Rattle.std.specs.Prelude.{◌≡◌, ◌⊎◌, ℕ, List, [], reverse, true};
 ghost use Rattle.cd_types.specs.Format.{IsBytes};
 ghost use Rattle.cd_entries.specs.declared.entry.Entry.{Entry};
 ghost use Rattle.cd_turn.specs.Home.{StandsFor, IsJournal, IsFit, IsUnfit};
 ghost use Rattle.cd_turn.specs.Legal.{IsLegal};
+ghost use Rattle.cd_legal.specs.Legal.{is_legal};
+ghost use Rattle.cd_reading.specs.Read.{canonical_reading};
+
+use cd_machine::law_of_ranges;
+use cd_reading::law_of_readings;
 
 /// Bytes are a journal of a legal list or have a first wrong place, and not both. The list is one, and so is the place. No
 /// bytes are a journal, and so is what a crash may leave of one.
@@ -15,3 +20,11 @@ pub fn law_of_homes()
     ensures blank { IsFit [] }
     ensures kept { (entries : List Entry) (bytes : List ℕ) → IsJournal entries bytes → IsFit bytes }
 {}
+
+/// Entries that may follow one another here may do so by the rules of a node, which see the newest first.
+pub fn law_of_legality()
+    ensures { (entries : List Entry) → IsLegal entries → is_legal canonical_reading (reverse entries) ≡ true }
+{
+    law_of_ranges();
+    law_of_readings();
+}

@@ -9,7 +9,7 @@ mod status;
 mod turn;
 
 pub use home::Home;
-pub use law::law_of_homes;
+pub use law::{law_of_homes, law_of_legality};
 pub use order::{Order, order_of};
 pub use reply::{Refusal, Reply};
 pub use status::Status;

@@ -39,5 +39,6 @@ returns-in-Ok-clause-yes c = λ passed.
       room = omega arith;
       later = omega (arith, c.seconds.ensures.value);
       once = subst (IsOnce c.args.origin.now) same_too (w.0 refl);
+      short = omega arith;
       canonical = c.in-Ok.ensures.yes passed;
     }
