@@ -4,18 +4,18 @@ use Rattle.cd_types.specs.declared.rows.Placing.{Placing}
 use Rattle.cd_entries.specs.declared.entry.Entry.{Entry}
 use Rattle.cd_entries.specs.declared.entry.Entry.TheVariants as entry
 use Rattle.cd_frames.specs.Message.{Message}
-use Rattle.cd_status.specs.Processes.{latest, submission, is_live}
+use Rattle.cd_status.specs.Processes.{latest, submission}
 use Rattle.cd_status.specs.Queue.{placing, retried}
 use Rattle.cd_legal.specs.Legal.{is_legal}
 use Rattle.cd_legal.specs.Promises.{HavePriorities}
 use Rattle.cd_legal.specs.Steps.{Reading}
 use Rattle.cd_moves.specs.declared.session.Phase.{Phase}
 use Rattle.cd_moves.specs.declared.session.Phase.TheVariants.{Gone}
-use Rattle.cd_moves.specs.Closing.{own_number, key_under_way, is_running, waits_for, retry, retry_own, close, trouble_for, trouble}
-use Rattle.cd_moves.specs.Node.{Desk, Node, Deed, Keep, Touch, AskSize, AskBytes, Begin, Go}
+use Rattle.cd_moves.specs.Closing.{own_number, key_under_way, waits_for, retry, retry_own, close, trouble_for, trouble}
+use Rattle.cd_moves.specs.Node.{Desk, Node, Deed, Keep, Go}
 use Rattle.cd_moves.specs.Rows.{are_allowed}
 use Rattle.cd_moves.specs.RowsLaw.{close_fits, trouble_fits}
-use Rattle.cd_deeds.specs.Stands.{Spot, WereCut, IsFaultOf, IsFaultOfSending, IsFaultOfGiving, IsFaultOfAsking, IsFaultOfRecording}
+use Rattle.cd_deeds.specs.Stands.{Spot, WereCut, IsFaultOf, IsFaultOfSending, IsFaultOfAsking, IsFaultOfRecording}
 use Rattle.cd_deeds.specs.declared.fault.Fault.{Fault}
 use Rattle.cd_deeds.specs.declared.fault.Fault.TheVariants as fault
 use Rattle.cd_node.specs.Going.{IsSo, WereStopped, IsFaultOfTelling}

@@ -1,5 +1,5 @@
 -- What a crash leaves in the rows of a turn, one behind another.
-use Rattle.std.proofs.Common.{◌≡◌, inl, inr, ⊎_elim, ℕ, ◌≤◌, List, [], ◌∷◌, refl, subst}
+use Rattle.std.proofs.Common.{◌≡◌, inl, inr, ⊎_elim, ℕ, ◌≤◌, List, [], ◌∷◌, refl}
 use Rattle.cd_outside.specs.Lines.{Traffic}
 use Rattle.cd_outside.specs.Moments.{Moments}
 use Rattle.cd_outside.proofs.Runs.{moments_then, moments_weaker}
@@ -13,8 +13,8 @@ use Rattle.cd_node.specs.Going.{IsSo, MayLeave}
 use Rattle.cd_node.specs.Question.{Setting}
 use Rattle.cd_node.specs.Sessions.{IsAt}
 use Rattle.cd_node.specs.declared.session.Session.{Session}
-use Rattle.cd_plain.specs.Crash.{Begun, IsWithinOne, IsBegun, RowsOfTrouble, telling, losing, TroubleLeaves, RowsBehind, alone, FrameLeaves}
-use Rattle.cd_plain.specs.Handling.{Case, EndStopped, CutOff}
+use Rattle.cd_plain.specs.Crash.{Begun, IsWithinOne, IsBegun, telling, losing, TroubleLeaves, RowsBehind, alone, FrameLeaves}
+use Rattle.cd_plain.specs.Handling.{Case, EndStopped}
 use Rattle.cd_plain.specs.Turn.{heard_at}
 use Rattle.cd_plain.proofs.Taken.{node_at, node_is}
 

@@ -1,26 +1,25 @@
 -- What is chosen, and what was taken, by the rules' rows.
 use Rattle.std.proofs.Common.{◌≡◌, inl, inr, ℕ, ◌+◌, ◌<◌, ◌≤◌, List, [], ◌∷◌, ◌++◌, map, min, Bool, true, false, cond, Option, Some, None, eqb, leb, refl, sym, ap, subst, ◌∙◌, arith}
-use Rattle.std.specs.Prelude.{◌&&◌, nat_le, nat_lt}
+use Rattle.std.specs.Prelude.{◌&&◌, nat_lt}
 use Rattle.std.specs.List.{filter_map, cons_option}
 use Rattle.std.proofs.lemmas.Bool.{and_from, and_parts, cond-true, cond-false, eq-eqb, ne_eqb, eqb-true, cases_Bool, le-leb, lt-ltb}
 use Rattle.std.proofs.Math.Nat.{min-le_right}
 use Rattle.std.proofs.lemmas.List.{map_push, append-nil}
 use Rattle.cd_types.specs.declared.choices.Queue.TheVariants as queue
 use Rattle.cd_types.specs.declared.choices.Reason.TheVariants as reason
-use Rattle.cd_types.specs.declared.key.Key.{Key}
 use Rattle.cd_types.specs.declared.rows.Placing.{Placing}
 use Rattle.cd_types.specs.declared.rows.Row.{Row}
 use Rattle.cd_entries.specs.declared.entry.Entry.{Entry}
 use Rattle.cd_entries.specs.declared.entry.Entry.TheVariants as entry
 use Rattle.cd_outside.specs.declared.sid.Sid.{Sid}
-use Rattle.cd_status.specs.Processes.{latest, moment_of}
+use Rattle.cd_status.specs.Processes.{moment_of}
 use Rattle.cd_status.specs.Queue.{Waits, after_wait, after_attempts, retried, next_due}
 use Rattle.cd_legal.specs.Legal.{allowed, is_legal}
 use Rattle.cd_legal.specs.Steps.{Reading}
 use Rattle.cd_moves.specs.Closing.{own_number}
-use Rattle.cd_moves.specs.Node.{Desk, Node, Deed, Keep, does}
-use Rattle.cd_moves.specs.Promises.{StaysLegal, IsLegalAfter}
-use Rattle.cd_moves.specs.Rows.{is_by, is_formed, may_record, place_in, opened, row_accept, busy, connect, call, row_chosen, row_choose}
+use Rattle.cd_moves.specs.Node.{Desk, Node, Deed, does}
+use Rattle.cd_moves.specs.Promises.{StaysLegal}
+use Rattle.cd_moves.specs.Rows.{is_by, is_formed, may_record, place_in, opened, row_accept, busy, call, row_chosen, row_choose}
 use Rattle.cd_moves.specs.declared.session.Phase.{Phase}
 use Rattle.cd_moves.specs.declared.session.Phase.TheVariants.{Fresh}
 use Rattle.cd_deeds.specs.declared.holders.Holding.{Holding}

@@ -1,5 +1,5 @@
 -- A node of the rules, as this node is one.
-use Rattle.std.specs.Prelude.{◌≡◌, ℕ, List, map}
+use Rattle.std.specs.Prelude.{◌≡◌, ℕ, map}
 use Rattle.cd_types.specs.declared.key.Key.{Key}
 use Rattle.cd_legal.specs.Steps.{Reading}
 use Rattle.cd_moves.specs.Node.{Node}
