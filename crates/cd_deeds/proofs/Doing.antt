@@ -122,7 +122,8 @@ traffic_kept sid (Touch change) traffic is = refl
 traffic_kept sid (AskSize name) traffic is = absurd is
 traffic_kept sid (AskBytes name at len) traffic is = absurd is
 traffic_kept sid (Begin key next) traffic is = absurd is
-traffic_kept sid (Go next frames) traffic is = absurd is
+traffic_kept sid (Go next []) traffic is = absurd is
+traffic_kept sid (Go next (m ∷ frames)) traffic is = absurd is
 
 -- What a crash leaves.
 

@@ -9,7 +9,8 @@ use Rattle.cd_frames.specs.Frame.{frame_bytes, IsWritable}
 use Rattle.cd_frames.specs.Message.{Message}
 use Rattle.cd_moves.specs.Seen.{seen_frame}
 use Rattle.cd_moves.specs.declared.deed.Outgoing.{Outgoing}
-use Rattle.cd_deeds.specs.Stands.{gave, GaveSome, AreSendable}
+use Rattle.cd_deeds.specs.Stands.{gave, GaveSome, AreSendable, IsFaultOfSending, IsFaultOfGiving}
+use Rattle.cd_deeds.specs.declared.fault.Fault.{Fault}
 
 -- nothing was given
 pub gave_none : (sid : ℕ) (bytes : List ℕ) (traffic : Traffic) → GaveFront sid bytes traffic traffic
@@ -49,6 +50,15 @@ frames_more frames i f lt is = ap (map seen_frame) (taken_more frames i f lt is)
 -- the frame at hand can be sent
 pub sendable_here : (frames : List Outgoing) (i : ℕ) (f : Outgoing) → i < length frames → f ≡ get_or frames i f → AreSendable (map seen_frame frames) → IsWritable (seen_frame f)
 sendable_here frames i f lt is are = sendable_at (map seen_frame (take i frames)) (map seen_frame (drop (i + 1) frames)) (seen_frame f) (subst AreSendable (frames_split frames i f lt is) are)
+
+-- a fault in sending one of these frames is one of sending them
+giving_at : (frames more : List Message) (m : Message) (why : Fault) → IsFaultOfSending why → IsFaultOfGiving (frames ++ m ∷ more) why
+giving_at [] more m why is = is
+giving_at (first ∷ frames) more m why is = is
+
+pub giving_here : (frames : List Outgoing) (i : ℕ) (f : Outgoing) (why : Fault) → i < length frames → f ≡ get_or frames i f → IsFaultOfSending why → IsFaultOfGiving (map seen_frame frames) why
+giving_here frames i f why lt is sending =
+    subst (λ (ms : List Message). IsFaultOfGiving ms why) (sym (frames_split frames i f lt is)) (giving_at (map seen_frame (take i frames)) (map seen_frame (drop (i + 1) frames)) (seen_frame f) why sending)
 
 -- it was cut off
 pub gave_some : (sid : ℕ) (frames : List Outgoing) (i : ℕ) (f : Outgoing) (first middle last : Traffic) → i < length frames → f ≡ get_or frames i f → middle ≡ gave sid (map seen_frame (take i frames)) first → GaveFront sid (frame_bytes (seen_frame f)) middle last

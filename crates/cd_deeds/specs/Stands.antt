@@ -142,6 +142,18 @@ IsFaultOfSending fault.NoMemory = Unit {0}
 IsFaultOfSending fault.Line = Unit {0}
 IsFaultOfSending _ = ⊥
 
+-- the fault is one of sending these frames: without a frame there is none
+abbrev pub IsFaultOfGiving : List Message → Fault → Type 0
+IsFaultOfGiving [] told = ⊥
+IsFaultOfGiving (m ∷ frames) told = IsFaultOfSending told
+
+-- the fault is one of recording
+abbrev pub IsFaultOfRecording : Fault → Type 0
+IsFaultOfRecording fault.Disk = Unit {0}
+IsFaultOfRecording (fault.JournalFull len) = Unit {0}
+IsFaultOfRecording fault.NoMemory = Unit {0}
+IsFaultOfRecording _ = ⊥
+
 -- the fault is one of this deed; the journal is full where the entry makes it longer than 2^30 bytes
 abbrev pub IsFaultOf : Deed → Fault → Type 0
 IsFaultOf (Keep e) fault.Disk = Unit {0}
@@ -149,7 +161,7 @@ IsFaultOf (Keep e) (fault.JournalFull len) = 2 ^ 30 < len + 5 + length (entry_by
 IsFaultOf (Keep e) fault.NoMemory = Unit {0}
 IsFaultOf (Touch change) fault.Files = Unit {0}
 IsFaultOf (Begin key phase) fault.NoMemory = Unit {0}
-IsFaultOf (Go phase frames) told = IsFaultOfSending told
+IsFaultOf (Go phase frames) told = IsFaultOfGiving frames told
 IsFaultOf _ _ = ⊥
 
 -- the fault is one of asking for bytes

@@ -60,6 +60,7 @@ pub(crate) fn act<T: Texts, D: Disk, L: Lines>(
     ensures last { L.last lines.new ≡ L.last lines.old }
     ensures disk_later { D.faults disk.old ≤ D.faults disk.new }
     ensures lines_later { NeverFell (L.counts lines.old) (L.counts lines.new) }
+    ensures nones { (L.counts lines.new).nones ≡ (L.counts lines.old).nones }
 {
     match deed {
         Deed::Keep(entry) => match registry.keep(disk, entry, beat) {

@@ -140,6 +140,7 @@ impl<T: Texts> Registry<T> {
 
         ensures registry { P.told → result ≢ Err Fault.Disk → IsRegistry self.new (P.state disk.new) }
         ensures kept { OnOk result (self.new.entries ≡ entry ∷ self.old.entries) }
+        ensures fits { OnOk result (length_of self.old.journal + 5 + length (entry_bytes entry) ≤ 2 ^ 30) }
         ensures err { OnErr result (self.new.entries ≡ self.old.entries) }
         ensures header { self.new.journal.has_header ≡ true }
         ensures sound { result ≢ Err Fault.Disk → self.new.journal.sound ≡ true }

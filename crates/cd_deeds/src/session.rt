@@ -5,7 +5,7 @@ ghost use Rattle.cd_outside.specs.Lines.{sent, GaveFront, NeverFell};
 ghost use Rattle.cd_frames.specs.Frame.{frame_bytes, IsWritable};
 ghost use Rattle.cd_moves.specs.Seen.{seen_frame};
 ghost use Rattle.cd_types.specs.NodeName.{IsNodeName};
-ghost use Rattle.cd_deeds.specs.Stands.{gave, GaveSome, IsFaultOfSending, AreSendable, HasNames};
+ghost use Rattle.cd_deeds.specs.Stands.{gave, GaveSome, IsFaultOfSending, IsFaultOfGiving, AreSendable, HasNames};
 
 use crate::{Fault, Holders, Holding};
 use cd_frames::write_frame;
@@ -51,6 +51,7 @@ fn send<L: Lines>(alloc: Global, lines: &mut L, sid: Sid, frame: &Outgoing<'_>) 
     ensures fault { IfErr result IsFaultOfSending }
     ensures last { L.last lines.new ≡ L.last lines.old }
     ensures later { NeverFell (L.counts lines.old) (L.counts lines.new) }
+    ensures nones { (L.counts lines.new).nones ≡ (L.counts lines.old).nones }
     ensures cause { result ≡ Err Fault.Line → Rose ((L.counts lines.old).faults sid.number) ((L.counts lines.new).faults sid.number) }
 {
     see_names(frame);
@@ -77,9 +78,10 @@ fn send_all<L: Lines>(
     requires ready { AreSendable (map seen_frame frames.now) }
     ensures sent { L.told → OnOk result (L.traffic lines.new ≡ gave sid.number (map seen_frame frames.now) (L.traffic lines.old)) }
     ensures some { L.told → OnErr result (GaveSome sid.number (map seen_frame frames.now) (L.traffic lines.old) (L.traffic lines.new)) }
-    ensures fault { IfErr result IsFaultOfSending }
+    ensures fault { IfErr result (λ fault. IsFaultOfGiving (map seen_frame frames.now) fault) }
     ensures last { L.last lines.new ≡ L.last lines.old }
     ensures later { NeverFell (L.counts lines.old) (L.counts lines.new) }
+    ensures nones { (L.counts lines.new).nones ≡ (L.counts lines.old).nones }
     ensures cause { result ≡ Err Fault.Line → Rose ((L.counts lines.old).faults sid.number) ((L.counts lines.new).faults sid.number) }
 {
     for frame in frames {
@@ -107,9 +109,10 @@ pub(crate) fn go<L: Lines>(
     ensures same { OnErr result (phase.new ≡ phase.old) }
     ensures sent { L.told → OnOk result (L.traffic lines.new ≡ gave sid.number (map seen_frame frames.now) (L.traffic lines.old)) }
     ensures some { L.told → OnErr result (GaveSome sid.number (map seen_frame frames.now) (L.traffic lines.old) (L.traffic lines.new)) }
-    ensures fault { IfErr result IsFaultOfSending }
+    ensures fault { IfErr result (λ fault. IsFaultOfGiving (map seen_frame frames.now) fault) }
     ensures last { L.last lines.new ≡ L.last lines.old }
     ensures later { NeverFell (L.counts lines.old) (L.counts lines.new) }
+    ensures nones { (L.counts lines.new).nones ≡ (L.counts lines.old).nones }
     ensures cause { result ≡ Err Fault.Line → Rose ((L.counts lines.old).faults sid.number) ((L.counts lines.new).faults sid.number) }
 {
     match send_all(alloc, lines, sid, frames) {

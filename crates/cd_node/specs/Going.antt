@@ -8,6 +8,7 @@ use Rattle.cd_moves.specs.Rows.{is_done}
 use Rattle.cd_deeds.specs.Joint.{NodeImage, IsWithin}
 use Rattle.cd_deeds.specs.Stands.{Spot, Stands, WereDone, WereCut, IsFaultOfAsking}
 use Rattle.cd_deeds.specs.declared.fault.Fault.{Fault}
+use Rattle.cd_deeds.specs.declared.fault.Fault.TheVariants as fault
 use Rattle.cd_node.specs.Question.{Setting, config_with, question_of, IsTold}
 use Rattle.cd_node.specs.Rest.{part_after, rest, rank, Agrees}
 
@@ -45,6 +46,11 @@ pub record WereLeft (files_told lines_told : Type 0) (sid : ℕ) (deeds : List D
   pub parts : deeds ≡ done ++ more
   pub first : WereDone files_told lines_told sid done before after
   pub cause : IsFaultOfAsking fault
+
+-- the fault is one of telling a partner of trouble, which records too
+abbrev pub IsFaultOfTelling : Fault → Type 0
+IsFaultOfTelling fault.Files = ⊥
+IsFaultOfTelling _ = Unit {0}
 
 -- so, or one of the deeds was cut off
 abbrev pub WereStopped : Type 0 → Type 0 → ℕ → List Deed → Fault → Spot → Spot → Type 0

@@ -13,8 +13,8 @@ ghost use Rattle.cd_moves.specs.Node.{Node};
 ghost use Rattle.cd_moves.specs.Rows.{row_end, row_trouble};
 ghost use Rattle.cd_deeds.specs.Joint.{JointAt, IsWithin};
 ghost use Rattle.cd_deeds.specs.Registry.{IsRegistry};
-ghost use Rattle.cd_deeds.specs.Stands.{spot, WereDone};
-ghost use Rattle.cd_node.specs.Going.{IsSo, WereStopped};
+ghost use Rattle.cd_deeds.specs.Stands.{spot, WereDone, IsFaultOfRecording};
+ghost use Rattle.cd_node.specs.Going.{IsSo, WereStopped, IsFaultOfTelling};
 
 use crate::rules::Rules;
 use cd_book::Texts;
@@ -24,7 +24,8 @@ use cd_outside::{Beat, Disk, Files, Lines, Sid};
 use cd_types::Moment;
 use std::alloc::Global;
 
-/// A session ended, or a frame came that is none: does what the rules say. The causes of faults are those of a frame.
+/// A session ended, or a frame came that is none: does what the rules say. That changes no file and sends nothing, so the only
+/// faults are those of recording: the disk, a full journal, want of memory.
 pub fn on_end<T: Texts, R: Rules<T>, D: Disk, F: Files, L: Lines>(
     alloc: Global,
     rules: &R,
@@ -69,7 +70,8 @@ pub fn on_end<T: Texts, R: Rules<T>, D: Disk, F: Files, L: Lines>(
     ensures sound { result ≢ Err Fault.Disk → registry.new.journal.sound ≡ true }
     ensures full { (len : ℕ) → result ≡ Err (Fault.JournalFull len) → length_of registry.new.journal ≡ len }
 
-    // Why it fails.
+    // Why it fails: recording alone can.
+    ensures fault { IfErr result IsFaultOfRecording }
     ensures disk { result ≡ Err Fault.Disk → Rose (D.faults disk.old) (D.faults disk.new) }
     ensures files { result ≡ Err Fault.Files → Rose (F.faults files.old) (F.faults files.new) }
     ensures line { result ≡ Err Fault.Line → Rose ((L.counts lines.old).faults sid.number) ((L.counts lines.new).faults sid.number) }
@@ -81,6 +83,7 @@ pub fn on_end<T: Texts, R: Rules<T>, D: Disk, F: Files, L: Lines>(
     ensures disk_later { D.faults disk.old ≤ D.faults disk.new }
     ensures files_later { F.faults files.old ≤ F.faults files.new }
     ensures lines_later { NeverFell (L.counts lines.old) (L.counts lines.new) }
+    ensures nones { (L.counts lines.new).nones ≡ (L.counts lines.old).nones }
 {
     match rules.close(alloc, registry.book(), now, phase) {
         Ok(deeds) => match perform(
@@ -94,7 +97,7 @@ pub fn on_end<T: Texts, R: Rules<T>, D: Disk, F: Files, L: Lines>(
 }
 
 /// The files failed in what was done about a frame: the partner is told of trouble with the step that is under way, and the
-/// session closes. The causes of faults are those of a frame.
+/// session closes. That changes no file, so no fault is one of the files; `Line` is that of the telling.
 pub fn on_trouble<T: Texts, R: Rules<T>, D: Disk, F: Files, L: Lines>(
     alloc: Global,
     rules: &R,
@@ -139,7 +142,8 @@ pub fn on_trouble<T: Texts, R: Rules<T>, D: Disk, F: Files, L: Lines>(
     ensures sound { result ≢ Err Fault.Disk → registry.new.journal.sound ≡ true }
     ensures full { (len : ℕ) → result ≡ Err (Fault.JournalFull len) → length_of registry.new.journal ≡ len }
 
-    // Why it fails.
+    // Why it fails: recording, or the session.
+    ensures fault { IfErr result IsFaultOfTelling }
     ensures disk { result ≡ Err Fault.Disk → Rose (D.faults disk.old) (D.faults disk.new) }
     ensures files { result ≡ Err Fault.Files → Rose (F.faults files.old) (F.faults files.new) }
     ensures line { result ≡ Err Fault.Line → Rose ((L.counts lines.old).faults sid.number) ((L.counts lines.new).faults sid.number) }
@@ -151,6 +155,7 @@ pub fn on_trouble<T: Texts, R: Rules<T>, D: Disk, F: Files, L: Lines>(
     ensures disk_later { D.faults disk.old ≤ D.faults disk.new }
     ensures files_later { F.faults files.old ≤ F.faults files.new }
     ensures lines_later { NeverFell (L.counts lines.old) (L.counts lines.new) }
+    ensures nones { (L.counts lines.new).nones ≡ (L.counts lines.old).nones }
 {
     match rules.trouble(alloc, registry.book(), now, phase) {
         Ok(deeds) => match perform(

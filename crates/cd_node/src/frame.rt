@@ -103,6 +103,7 @@ pub fn on_frame<T: Texts, R: Rules<T>, D: Disk, F: Files, L: Lines>(
     ensures disk_later { D.faults disk.old ≤ D.faults disk.new }
     ensures files_later { F.faults files.old ≤ F.faults files.new }
     ensures lines_later { NeverFell (L.counts lines.old) (L.counts lines.new) }
+    ensures nones { (L.counts lines.new).nones ≡ (L.counts lines.old).nones }
 {
     match rules.first_part(
         alloc,

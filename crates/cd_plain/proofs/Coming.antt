@@ -1,5 +1,5 @@
 -- Bytes that came go on with what a reader was given.
-use Rattle.std.proofs.Common.{◌≡◌, inl, inr, ⊎_elim, ℕ, ◌≤◌, List, [], ◌∷◌, length, take, ◌++◌, true, false, Option, Some, None, Ok, Err, eqb, refl, sym, ap, subst, ◌∙◌, arith}
+use Rattle.std.proofs.Common.{◌≡◌, ◌⊎◌, inl, inr, ⊎_elim, ℕ, ◌≤◌, List, [], ◌∷◌, length, take, ◌++◌, true, false, Option, Some, None, Ok, Err, eqb, refl, sym, ap, subst, ◌∙◌, arith}
 use Rattle.std.proofs.lemmas.List.{append-nil}
 use Rattle.std.specs.Prelude.{is_some}
 use Rattle.std.proofs.lemmas.Bool.{eq-eqb, cond-true, cond-false, false≢true}
@@ -11,7 +11,7 @@ use Rattle.cd_frames.specs.Message.{Message}
 use Rattle.cd_frames.specs.Reading.{Reading, overwritten, with_free, with_filled, front, gone_past, after_step, step_answer}
 use Rattle.cd_frames.specs.ReadingLaw.{overwritten_all}
 use Rattle.cd_frames.specs.Run.{Run, lent, filled, stepped, given_by}
-use Rattle.cd_frames.specs.Stream.{Front, gives, refuses, waits}
+use Rattle.cd_frames.specs.Stream.{Front, gives, refuses, waits, front_of}
 use Rattle.cd_frames.specs.declared.frame.FrameFault.{FrameFault}
 use Rattle.cd_entries.specs.declared.entry.Entry.{Entry}
 use Rattle.cd_moves.specs.declared.session.Phase.{Phase}
@@ -66,6 +66,11 @@ waits_is waits says = refl
 pub waits_same : (reader : Reading) (f : Front) → f ≡ front reader → Ok false ≡ step_answer f → (after_step reader).rest ≡ reader.rest
 waits_same reader f is says = ap (λ (g : Front). (gone_past reader g).rest) (sym is ∙ waits_is f says)
 
+-- a reader that waits and gets no byte waits still
+pub filled_none : (reader after : Reading) (free : List ℕ) (n : ℕ) → after ≡ with_filled (with_free reader free) n → n ≡ 0 → front reader ≡ waits → front after ≡ waits
+filled_none reader after free n is none waiting =
+    ap front (is ∙ ap (λ (k : ℕ). with_filled (with_free reader free) k) none) ∙ ap (λ (bytes : List ℕ). front_of reader.place bytes) (append-nil reader.rest) ∙ waiting
+
 -- one run of calls behind another
 pub heard_then : (sid : ℕ) (first middle last : Traffic) → Heard sid first middle → Heard sid middle last → Heard sid first last
 heard_then sid first middle last one two = record { others = λ other apart. two.others other apart ∙ one.others other apart; given = two.given ∙ one.given; sends = two.sends ∙ one.sends }
@@ -100,18 +105,33 @@ rose_later first middle last rose later = omega (arith, rose, later)
 pub later_rose : (first middle last : ℕ) → first ≤ middle → Rose middle last → Rose first last
 later_rose first middle last later rose = omega (arith, later, rose)
 
+pub ends_since : (sid : ℕ) (first middle last : LineCounts) → NeverFell first middle → Rose (middle.ends sid) (last.ends sid) ⊎ Rose (middle.faults sid) (last.faults sid) → Rose (first.ends sid) (last.ends sid) ⊎ Rose (first.faults sid) (last.faults sid)
+ends_since sid first middle last early ends = ⊎_elim
+    (λ ended. inl (later_rose (first.ends sid) (middle.ends sid) (last.ends sid) (early.ends sid) ended))
+    (λ failed. inr (later_rose (first.faults sid) (middle.faults sid) (last.faults sid) (early.faults sid) failed))
+    ends
+
 -- where no frame came, the session ended, or gave what is none
 pub ended_later : (reader : Reading) (sid : ℕ) (before middle now : LineCounts) → HasEnded reader sid before middle → NeverFell middle now → HasEnded reader sid before now
 ended_later reader sid before middle now so later = ⊎_elim
     (λ bad. inl bad)
-    (λ ends. inr (⊎_elim
-    (λ ended. inl (rose_later (before.ends sid) (middle.ends sid) (now.ends sid) ended (later.ends sid)))
-    (λ failed. inr (rose_later (before.faults sid) (middle.faults sid) (now.faults sid) failed (later.faults sid)))
-    ends))
+    (λ ends. inr (
+      ends.0,
+      ⊎_elim
+          (λ ended. inl (rose_later (before.ends sid) (middle.ends sid) (now.ends sid) ended (later.ends sid)))
+          (λ failed. inr (rose_later (before.faults sid) (middle.faults sid) (now.faults sid) failed (later.faults sid)))
+          ends.1,
+    ))
     so
 
 pub lost_later : (entries : List Entry) (phase : Phase) (reader : Reading) (sid : ℕ) (before middle now : LineCounts) → MayBeLost entries phase reader sid before middle → NeverFell middle now → MayBeLost entries phase reader sid before now
-lost_later entries phase reader sid before middle now so later = ⊎_elim (λ over. inl over) (λ ended. inr (ended_later reader sid before middle now ended later)) so
+lost_later entries phase reader sid before middle now so later = ⊎_elim
+    (λ over. inl over)
+    (λ more. inr (⊎_elim
+    (λ ended. inl (ended_later reader sid before middle now ended later))
+    (λ failed. inr (rose_later (before.faults sid) (middle.faults sid) (now.faults sid) failed (later.faults sid)))
+    more))
+    so
 
 pub ended_so : (came : Came) (reader : Reading) (sid : ℕ) (before middle now : LineCounts) → CameSo came reader sid before middle → came_frame came reader.given ≡ None → NeverFell middle now → HasEnded reader sid before now
 ended_so came.Frame reader sid before middle now so none later = absurd (false≢true (ap (λ (o : Option Message). is_some o) (sym none) ∙ so))

@@ -14,7 +14,8 @@ use Rattle.cd_moves.specs.Node.{Desk, Node, Deed, Keep, Touch, AskSize, AskBytes
 use Rattle.cd_moves.specs.Rows.{is_sendable, are_allowed, hello, call, row_chosen}
 use Rattle.cd_outside.specs.Lines.{Traffic}
 use Rattle.cd_outside.specs.Shelf.{Shelf}
-use Rattle.cd_deeds.specs.Stands.{Spot, spot, WereDone, WereCut, holder_of, gave, IsFaultOf, IsFaultOfSending}
+use Rattle.cd_deeds.specs.Calls.{ShelfTorn}
+use Rattle.cd_deeds.specs.Stands.{Spot, spot, WereDone, WereCut, holder_of, gave, IsFaultOf, IsFaultOfSending, IsFaultOfGiving}
 use Rattle.cd_deeds.specs.declared.fault.Fault.{Fault}
 use Rattle.cd_deeds.specs.declared.fault.Fault.TheVariants as fault
 use Rattle.cd_deeds.specs.declared.holders.Holding.{Holding}
@@ -83,10 +84,14 @@ nothing_there : (done : List Deed) (torn : Deed) (more : List Deed) → [] ≡ d
 nothing_there [] torn more is = cc
 nothing_there (deed ∷ done) torn more is = cc
 
+giving_sends : (frames : List Message) (why : Fault) → IsFaultOfGiving frames why → IsFaultOfSending why
+giving_sends [] why is = absurd is
+giving_sends (m ∷ frames) why is = is
+
 one_fault : (phase : Phase) (frames : List Message) (done : List Deed) (torn : Deed) (more : List Deed) (why : Fault) → Go phase frames ∷ [] ≡ done ++ torn ∷ more → IsFaultOf torn why → IsFaultOfSending why
 one_fault phase frames [] torn more why parts cause =
     let same : torn ≡ Go phase frames = cc in
-    subst (λ (deed : Deed). IsFaultOf deed why) same cause
+    giving_sends frames why (subst (λ (deed : Deed). IsFaultOf deed why) same cause)
 one_fault phase frames (deed ∷ done) torn more why parts cause =
     let rest : [] ≡ done ++ torn ∷ more = cc in
     absurd (nothing_there done torn more rest)
@@ -97,6 +102,41 @@ call_fault desk now chosen (Some waits) done torn more why known parts cause = o
 
 pub chosen_fault : (desk : Desk) (now : ℕ) (chosen : Row) (done : List Deed) (torn : Deed) (more : List Deed) (why : Fault) → IsKnown desk chosen → row_chosen desk now true (Some chosen) ≡ done ++ torn ∷ more → IsFaultOf torn why → IsFaultOfSending why
 chosen_fault desk now chosen done torn more why known parts cause = call_fault desk now chosen (desk.config.partner chosen.snode) done torn more why known parts cause
+
+-- a greeting changes no file
+greeted_shelf : (files_told lines_told : Type 0) (sid : ℕ) (phase : Phase) (frames : List Message) (before after : Spot) → WereDone files_told lines_told sid (Go phase frames ∷ []) before after → files_told → after.shelf ≡ before.shelf
+unfolding any_node
+greeted_shelf files_told lines_told sid phase frames before after done told =
+    sym ((done.node (any_node before) (record { journal = refl; shelf = λ t. refl; phase = refl; holder = λ key. refl })).shelf told)
+
+nothing_shelf : (files_told lines_told : Type 0) (sid : ℕ) (before after : Spot) → WereDone files_told lines_told sid [] before after → files_told → after.shelf ≡ before.shelf
+unfolding any_node
+nothing_shelf files_told lines_told sid before after done told =
+    sym ((done.node (any_node before) (record { journal = refl; shelf = λ t. refl; phase = refl; holder = λ key. refl })).shelf told)
+
+cut_off_shelf : (files_told lines_told : Type 0) (sid : ℕ) (phase : Phase) (frames : List Message) (before middle after : Spot) (done : List Deed) (torn : Deed) (more : List Deed) → Go phase frames ∷ [] ≡ done ++ torn ∷ more
+    → WereDone files_told lines_told sid done before middle → (files_told → ShelfTorn torn middle.shelf after.shelf) → files_told → after.shelf ≡ before.shelf
+cut_off_shelf files_told lines_told sid phase frames before middle after [] torn more parts first rest told =
+    let same : torn ≡ Go phase frames = cc in
+    subst (λ (deed : Deed). ShelfTorn deed middle.shelf after.shelf) same (rest told) ∙ nothing_shelf files_told lines_told sid before middle first told
+cut_off_shelf files_told lines_told sid phase frames before middle after (deed ∷ done) torn more parts first rest told =
+    let left : [] ≡ done ++ torn ∷ more = cc in
+    absurd (nothing_there done torn more left)
+
+call_shelf : (files_told lines_told : Type 0) (sid : ℕ) (desk : Desk) (now : ℕ) (chosen : Row) (waits : Option Waits) (before after : Spot) → IsCalled waits → WereDone files_told lines_told sid (call desk now true chosen waits) before after → files_told → after.shelf ≡ before.shelf
+call_shelf files_told lines_told sid desk now chosen None before after known done told = absurd known
+call_shelf files_told lines_told sid desk now chosen (Some waits) before after known done told = greeted_shelf files_told lines_told sid (Greet chosen.number) (hello (own_home desk.journal) desk.config.block) before after done told
+
+pub chosen_shelf : (files_told lines_told : Type 0) (sid : ℕ) (desk : Desk) (now : ℕ) (chosen : Row) (before after : Spot) → IsKnown desk chosen → WereDone files_told lines_told sid (row_chosen desk now true (Some chosen)) before after → files_told → after.shelf ≡ before.shelf
+chosen_shelf files_told lines_told sid desk now chosen before after known done told = call_shelf files_told lines_told sid desk now chosen (desk.config.partner chosen.snode) before after known done told
+
+call_cut_shelf : (files_told lines_told : Type 0) (sid : ℕ) (desk : Desk) (now : ℕ) (chosen : Row) (waits : Option Waits) (why : Fault) (before after : Spot) → IsCalled waits → WereCut files_told lines_told sid (call desk now true chosen waits) why before after → files_told → after.shelf ≡ before.shelf
+call_cut_shelf files_told lines_told sid desk now chosen None why before after known cut told = absurd known
+call_cut_shelf files_told lines_told sid desk now chosen (Some waits) why before after known cut told =
+    cut_off_shelf files_told lines_told sid (Greet chosen.number) (hello (own_home desk.journal) desk.config.block) before cut.middle after cut.done cut.torn cut.more cut.parts cut.first cut.rest.shelf told
+
+pub chosen_cut_shelf : (files_told lines_told : Type 0) (sid : ℕ) (desk : Desk) (now : ℕ) (chosen : Row) (why : Fault) (before after : Spot) → IsKnown desk chosen → WereCut files_told lines_told sid (row_chosen desk now true (Some chosen)) why before after → files_told → after.shelf ≡ before.shelf
+chosen_cut_shelf files_told lines_told sid desk now chosen why before after known cut told = call_cut_shelf files_told lines_told sid desk now chosen (desk.config.partner chosen.snode) why before after known cut told
 
 pub not_of_disk : (why : Fault) → IsFaultOfSending why → why ≡ fault.Disk → ⊥
 not_of_disk fault.Disk cause is = cause

@@ -1,4 +1,6 @@
 mod Coming
+mod Crashing
+mod Due
 mod Formed
 mod Greeting
 mod Opening

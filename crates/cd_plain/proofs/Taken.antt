@@ -1,6 +1,7 @@
 -- Deeds take no bytes of sessions, so what was heard in a turn is all that was taken in it.
-use Rattle.std.proofs.Common.{◌≡◌, inl, inr, ⊎_elim, ℕ, List, [], ◌∷◌, ◌++◌, eqb, refl, sym, ap, subst, ◌∙◌}
-use Rattle.std.proofs.lemmas.Bool.{eq-eqb, cond-true}
+use Rattle.std.proofs.Common.{◌≡◌, inl, inr, ⊎_elim, ℕ, List, [], ◌∷◌, ◌++◌, eqb, refl, sym, ap, subst, ◌∙◌, arith}
+use Rattle.std.proofs.lemmas.Bool.{eq-eqb, cond-true, cond-false}
+use Rattle.cd_outside.specs.Counts.{Rose}
 use Rattle.cd_outside.specs.Lines.{Traffic, LineCounts, NeverFell, sent}
 use Rattle.cd_frames.specs.Frame.{frame_bytes}
 use Rattle.cd_frames.specs.Message.{Message}
@@ -17,12 +18,27 @@ use Rattle.cd_node.specs.Question.{Setting, desk_with}
 use Rattle.cd_node.specs.Sessions.{IsAt, phase_among, sessions_with}
 use Rattle.cd_node.specs.declared.session.Session.{Session}
 use Rattle.cd_plain.specs.Arriving.{TookOfOne}
-use Rattle.cd_plain.specs.Handling.{Case, the_case, DidEnd, EndStopped, GaveUp, WasHandled}
+use Rattle.cd_plain.specs.Choice.{GaveOfOne}
+use Rattle.cd_plain.specs.Handling.{Case, the_case, DidEnd, EndStopped, GaveUp, GivingUpFailed, WasHandled, HasFailed}
 use Rattle.cd_plain.specs.NodeState.{WasRead}
 use Rattle.cd_plain.specs.Turn.{TookTurn, heard_at}
 use Rattle.cd_plain.specs.declared.ending.Ending.{Ending}
 use Rattle.cd_plain.specs.declared.ending.Ending.TheVariants.{Went, Lost, Troubled}
-use Rattle.cd_plain.proofs.Coming.{ended_later}
+use Rattle.cd_plain.proofs.Coming.{ended_later, rose_later, later_rose}
+
+-- counts of earlier, and of later
+fell_none : (counts : LineCounts) → NeverFell counts counts
+fell_none counts = record {
+  faults = λ session. omega arith;
+  connects = omega arith;
+  accepts = omega arith;
+  ends = λ session. omega arith;
+  nones = omega arith;
+}
+
+wider : (sid : ℕ) (first before now last : LineCounts) → NeverFell first before → NeverFell now last → Rose (before.faults sid) (now.faults sid) → Rose (first.faults sid) (last.faults sid)
+wider sid first before now last early late rose =
+    rose_later (first.faults sid) (now.faults sid) (last.faults sid) (later_rose (first.faults sid) (before.faults sid) (now.faults sid) (early.faults sid) rose) (late.faults sid)
 
 gave_taken : (sid : ℕ) (frames : List Message) (traffic : Traffic) → (gave sid frames traffic).taken ≡ traffic.taken
 gave_taken sid [] traffic = refl
@@ -36,7 +52,28 @@ torn_taken sid (AskSize name) before after same = ap (λ (t : Traffic). t.taken)
 torn_taken sid (AskBytes name at len) before after same = ap (λ (t : Traffic). t.taken) same
 torn_taken sid (Begin key phase) before after same = ap (λ (t : Traffic). t.taken) same
 
+-- they give to their own session alone
+gave_given : (sid : ℕ) (frames : List Message) (traffic : Traffic) → GaveOfOne sid traffic (gave sid frames traffic)
+gave_given sid [] traffic other apart = refl
+gave_given sid (m ∷ frames) traffic other apart =
+    gave_given sid frames (sent sid (frame_bytes m) traffic) other apart ∙ cond-false (eqb sid other) (traffic.given sid ++ frame_bytes m) (traffic.given other) apart
+
+torn_given : (sid : ℕ) (deed : Deed) (before after : Traffic) → TrafficTorn sid deed before after → GaveOfOne sid before after
+torn_given sid (Go phase frames) before after some other apart = some.front.others other apart ∙ gave_given sid some.given before other apart
+torn_given sid (Keep e) before after same other apart = ap (λ (t : Traffic). t.given other) same
+torn_given sid (Touch change) before after same other apart = ap (λ (t : Traffic). t.given other) same
+torn_given sid (AskSize name) before after same other apart = ap (λ (t : Traffic). t.given other) same
+torn_given sid (AskBytes name at len) before after same other apart = ap (λ (t : Traffic). t.given other) same
+torn_given sid (Begin key phase) before after same other apart = ap (λ (t : Traffic). t.given other) same
+
 module _ (files_told lines_told : Type 0) (sid : ℕ) where
+  pub done_given : (deeds : List Deed) (before after : Spot) → WereDone files_told lines_told sid deeds before after → lines_told → GaveOfOne sid before.traffic after.traffic
+  done_given deeds before after done told other apart = ap (λ (t : Traffic). t.given other) (done.traffic told) ∙ gave_given sid (sends deeds) before.traffic other apart
+
+  pub cut_given : (deeds : List Deed) (why : Fault) (before after : Spot) → WereCut files_told lines_told sid deeds why before after → lines_told → GaveOfOne sid before.traffic after.traffic
+  cut_given deeds why before after cut told other apart =
+      torn_given sid cut.torn cut.middle.traffic after.traffic (cut.rest.traffic told) other apart ∙ done_given cut.done before cut.middle cut.first told other apart
+
   pub done_taken : (deeds : List Deed) (before after : Spot) → WereDone files_told lines_told sid deeds before after → lines_told → after.traffic.taken ≡ before.traffic.taken
   done_taken deeds before after done told = ap (λ (t : Traffic). t.taken) (done.traffic told) ∙ gave_taken sid (sends deeds) before.traffic
 
@@ -57,10 +94,10 @@ module _ (files_told lines_told : Type 0) (sid : ℕ) where
   }
 
 -- a node that stands so, with these other sessions
-node_at : Setting → steps.Reading → ℕ → List Session → Spot → Node
+pub node_at : Setting → steps.Reading → ℕ → List Session → Spot → Node
 node_at setting read sid others at = record { desk = desk_with setting read at.entries; shelf = at.shelf; sessions = sessions_with [] sid at.phase others at.holdings }
 
-node_is : (files_told : Type 0) (setting : Setting) (read : steps.Reading) (sid : ℕ) (others : List Session) (at : Spot) → IsAt files_told setting read sid others (node_at setting read sid others at) at
+pub node_is : (files_told : Type 0) (setting : Setting) (read : steps.Reading) (sid : ℕ) (others : List Session) (at : Spot) → IsAt files_told setting read sid others (node_at setting read sid others at) at
 unfolding node_at
 node_is files_told setting read sid others at = record {
   so = record {
@@ -82,45 +119,104 @@ module _ (files_told lines_told : Type 0) (setting : Setting) (read : steps.Read
       let node = node_at setting read sid [] before in
       stopped_taken files_told lines_told sid (rule node sid now) why before after (stopped node (node_is files_told setting read sid [] before).so) told
 
-  gave_up_taken : (before after : Spot) → GaveUp files_told lines_told setting read sid now before after → lines_told → after.traffic.taken ≡ before.traffic.taken
-  gave_up_taken before after gave told =
-      elim gave [
-        | inl did ↦ ended_taken row_trouble before after did told
-        | inr lost ↦ ended_taken row_end lost.at after lost.ended told ∙ end_stopped_taken row_trouble fault.Line before lost.at lost.stopped told
-      ]
-
   pub ended_then : (rule : Node → ℕ → ℕ → List Deed) (before after : Spot) (then_told : Traffic) → (lines_told → then_told ≡ after.traffic) → DidEnd files_told lines_told setting read sid now rule before after → DidEnd files_told lines_told setting read sid now rule before (heard_at then_told after)
   ended_then rule before after then_told same ended = λ node is. done_then files_told lines_told sid (rule node sid now) before after then_told same (ended node is)
 
-  gave_up_then : (before after : Spot) (then_told : Traffic) → (lines_told → then_told ≡ after.traffic) → GaveUp files_told lines_told setting read sid now before after → GaveUp files_told lines_told setting read sid now before (heard_at then_told after)
-  gave_up_then before after then_told same gave =
+-- What the lines counted may be taken earlier before and later after.
+module _ (files_told lines_told : Type 0) (setting : Setting) (read : steps.Reading) (sid now : ℕ) (counts_before counts : LineCounts) where
+  gave_up_taken : (before after : Spot) → GaveUp files_told lines_told setting read sid now counts_before counts before after → lines_told → after.traffic.taken ≡ before.traffic.taken
+  gave_up_taken before after gave told =
       elim gave [
-        | inl did ↦ inl (ended_then row_trouble before after then_told same did)
-        | inr lost ↦ inr (record { at = lost.at; stopped = lost.stopped; ended = ended_then row_end lost.at after then_told same lost.ended })
+        | inl did ↦ ended_taken files_told lines_told setting read sid now row_trouble before after did told
+        | inr lost ↦ ended_taken files_told lines_told setting read sid now row_end lost.at after lost.ended told ∙ end_stopped_taken files_told lines_told setting read sid now row_trouble fault.Line before lost.at lost.stopped told
       ]
 
-handled_taken : (it : Case) (ending : Ending) (before after : Spot) → WasHandled it ending before after → it.lines_told → after.traffic.taken ≡ before.traffic.taken
-handled_taken it Went before after did told =
-    let node = node_at it.setting it.read it.sid it.others before in
-    done_taken it.files_told it.lines_told it.sid (row node it.sid did.answers it.frame) before after (did.done node (node_is it.files_told it.setting it.read it.sid it.others before)) told
-handled_taken it Lost before after lost told =
-    let node = node_at it.setting it.read it.sid it.others before in
-    ended_taken it.files_told it.lines_told it.setting it.read it.sid it.now row_end lost.at after lost.ended told
-    ∙ stopped_taken it.files_told it.lines_told it.sid (row node it.sid lost.cut.answers it.frame) fault.Line before lost.at (lost.cut.stopped node (node_is it.files_told it.setting it.read it.sid it.others before)) told
-handled_taken it Troubled before after trouble told =
-    let node = node_at it.setting it.read it.sid it.others before in
-    gave_up_taken it.files_told it.lines_told it.setting it.read it.sid it.now trouble.at after trouble.ended told
-    ∙ stopped_taken it.files_told it.lines_told it.sid (row node it.sid trouble.cut.answers it.frame) fault.Files before trouble.at (trouble.cut.stopped node (node_is it.files_told it.setting it.read it.sid it.others before)) told
+  gave_up_then : (first last : LineCounts) (before after : Spot) (then_told : Traffic) → NeverFell first counts_before → NeverFell counts last → (lines_told → then_told ≡ after.traffic)
+      → GaveUp files_told lines_told setting read sid now counts_before counts before after → GaveUp files_told lines_told setting read sid now first last before (heard_at then_told after)
+  gave_up_then first last before after then_told early late same gave =
+      elim gave [
+        | inl did ↦ inl (ended_then files_told lines_told setting read sid now row_trouble before after then_told same did)
+        | inr lost ↦ inr (record {
+          at = lost.at;
+          cause = wider sid first counts_before counts last early late lost.cause;
+          stopped = lost.stopped;
+          ended = ended_then files_told lines_told setting read sid now row_end lost.at after then_told same lost.ended;
+        })
+      ]
 
-handled_then : (it : Case) (ending : Ending) (before after : Spot) (then_told : Traffic) → (it.lines_told → then_told ≡ after.traffic) → WasHandled it ending before after → WasHandled it ending before (heard_at then_told after)
-handled_then it Went before after then_told same did = record {
-  answers = did.answers;
-  moment = did.moment;
-  done = λ node is. done_then it.files_told it.lines_told it.sid (row node it.sid did.answers it.frame) before after then_told same (did.done node is);
-  told = did.told;
-}
-handled_then it Lost before after then_told same lost = record { at = lost.at; cut = lost.cut; ended = ended_then it.files_told it.lines_told it.setting it.read it.sid it.now row_end lost.at after then_told same lost.ended }
-handled_then it Troubled before after then_told same trouble = record { at = trouble.at; cut = trouble.cut; ended = gave_up_then it.files_told it.lines_told it.setting it.read it.sid it.now trouble.at after then_told same trouble.ended }
+  pub gave_up_since : (first : LineCounts) (before after : Spot) → NeverFell first counts_before
+      → GaveUp files_told lines_told setting read sid now counts_before counts before after → GaveUp files_told lines_told setting read sid now first counts before after
+  gave_up_since first before after early gave =
+      elim gave [
+        | inl did ↦ inl did
+        | inr lost ↦ inr (record { at = lost.at; cause = wider sid first counts_before counts counts early (fell_none counts) lost.cause; stopped = lost.stopped; ended = lost.ended })
+      ]
+
+  pub gave_failed_since : (first : LineCounts) (why : Fault) (before after : Spot) → NeverFell first counts_before
+      → GivingUpFailed files_told lines_told setting read sid now counts_before counts why before after → GivingUpFailed files_told lines_told setting read sid now first counts why before after
+  gave_failed_since first why before after early gave =
+      elim gave [
+        | inl stopped ↦ inl stopped
+        | inr lost ↦ inr (record { at = lost.at; cause = wider sid first counts_before counts counts early (fell_none counts) lost.cause; stopped = lost.stopped; ended = lost.ended })
+      ]
+
+module _ (it : Case) (counts_before counts : LineCounts) where
+  handled_taken : (ending : Ending) (before after : Spot) → WasHandled it counts_before counts ending before after → it.lines_told → after.traffic.taken ≡ before.traffic.taken
+  handled_taken Went before after did told =
+      let node = node_at it.setting it.read it.sid it.others before in
+      done_taken it.files_told it.lines_told it.sid (row node it.sid did.answers it.frame) before after (did.done node (node_is it.files_told it.setting it.read it.sid it.others before)) told
+  handled_taken Lost before after lost told =
+      let node = node_at it.setting it.read it.sid it.others before in
+      ended_taken it.files_told it.lines_told it.setting it.read it.sid it.now row_end lost.at after lost.ended told
+      ∙ stopped_taken it.files_told it.lines_told it.sid (row node it.sid lost.cut.answers it.frame) fault.Line before lost.at (lost.cut.stopped node (node_is it.files_told it.setting it.read it.sid it.others before)) told
+  handled_taken Troubled before after trouble told =
+      let node = node_at it.setting it.read it.sid it.others before in
+      gave_up_taken it.files_told it.lines_told it.setting it.read it.sid it.now counts_before counts trouble.at after trouble.ended told
+      ∙ stopped_taken it.files_told it.lines_told it.sid (row node it.sid trouble.cut.answers it.frame) fault.Files before trouble.at (trouble.cut.stopped node (node_is it.files_told it.setting it.read it.sid it.others before)) told
+
+  -- the same, by counts of earlier and of later
+  handled_then : (first last : LineCounts) (ending : Ending) (before after : Spot) (then_told : Traffic) → NeverFell first counts_before → NeverFell counts last → (it.lines_told → then_told ≡ after.traffic)
+      → WasHandled it counts_before counts ending before after → WasHandled it first last ending before (heard_at then_told after)
+  handled_then first last Went before after then_told early late same did = record {
+    answers = did.answers;
+    moment = did.moment;
+    done = λ node is. done_then it.files_told it.lines_told it.sid (row node it.sid did.answers it.frame) before after then_told same (did.done node is);
+    told = did.told;
+  }
+  handled_then first last Lost before after then_told early late same lost = record {
+    at = lost.at;
+    cause = wider it.sid first counts_before counts last early late lost.cause;
+    cut = lost.cut;
+    ended = ended_then it.files_told it.lines_told it.setting it.read it.sid it.now row_end lost.at after then_told same lost.ended;
+  }
+  handled_then first last Troubled before after then_told early late same trouble = record {
+    at = trouble.at;
+    cut = trouble.cut;
+    ended = gave_up_then it.files_told it.lines_told it.setting it.read it.sid it.now counts_before counts first last trouble.at after then_told early late same trouble.ended;
+  }
+
+  pub handled_since : (first : LineCounts) (ending : Ending) (before after : Spot) → NeverFell first counts_before → WasHandled it counts_before counts ending before after → WasHandled it first counts ending before after
+  handled_since first Went before after early did = record { answers = did.answers; moment = did.moment; done = did.done; told = did.told }
+  handled_since first Lost before after early lost = record { at = lost.at; cause = wider it.sid first counts_before counts counts early (fell_none counts) lost.cause; cut = lost.cut; ended = lost.ended }
+  handled_since first Troubled before after early trouble = record {
+    at = trouble.at;
+    cut = trouble.cut;
+    ended = gave_up_since it.files_told it.lines_told it.setting it.read it.sid it.now counts_before counts first trouble.at after early trouble.ended;
+  }
+
+  pub failed_since : (first : LineCounts) (why : Fault) (before after : Spot) → NeverFell first counts_before → HasFailed it counts_before counts why before after → HasFailed it first counts why before after
+  failed_since first why before after early failed =
+      elim failed [
+        | inl cut ↦ inl cut
+        | inr more ↦ inr (elim more [
+          | inl losing ↦ inl (record { at = losing.at; cause = wider it.sid first counts_before counts counts early (fell_none counts) losing.cause; cut = losing.cut; ended = losing.ended })
+          | inr telling ↦ inr (record {
+            at = telling.at;
+            cut = telling.cut;
+            ended = gave_failed_since it.files_told it.lines_told it.setting it.read it.sid it.now counts_before counts first why telling.at after early telling.ended;
+          })
+        ])
+      ]
 
 -- A turn.
 module _ (files_told lines_told : Type 0) (setting : Setting) (read : steps.Reading) (sid now : ℕ) (others : List Session) (ending : Ending) (counts_before counts : LineCounts) (reader_before reader : Reading) (before after : Spot) where
@@ -133,7 +229,7 @@ module _ (files_told lines_told : Type 0) (setting : Setting) (read : steps.Read
           frame = took.frame;
           heard = took.heard;
           came = took.came;
-          handled = handled_then (the_case files_told lines_told setting read sid now others took.frame) ending (heard_at took.heard before) after then_told same took.handled;
+          handled = handled_then (the_case files_told lines_told setting read sid now others took.frame) counts_before counts counts_before then_counts ending (heard_at took.heard before) after then_told (fell_none counts_before) later same took.handled;
         })
         | inr lost ↦ inr (
           lost.0,
@@ -156,7 +252,7 @@ module _ (files_told lines_told : Type 0) (setting : Setting) (read : steps.Read
         | inl took ↦ record {
           given = was.given ++ took.frame ∷ [];
           run = subst (λ (taken : ℕ → List ℕ). Run (taken sid) (was.given ++ took.frame ∷ []) reader)
-              (sym (handled_taken (the_case files_told lines_told setting read sid now others took.frame) ending (heard_at took.heard before) after took.handled told)) (took.came.next told was.given was.run);
+              (sym (handled_taken (the_case files_told lines_told setting read sid now others took.frame) counts_before counts ending (heard_at took.heard before) after took.handled told)) (took.came.next told was.given was.run);
         }
         | inr lost ↦ elim lost.1 [
           | inl took ↦ record {
@@ -176,7 +272,7 @@ module _ (files_told lines_told : Type 0) (setting : Setting) (read : steps.Read
   turn_others turn told =
       elim turn [
         | inl took ↦ λ other apart.
-            ap (λ (taken : ℕ → List ℕ). taken other) (handled_taken (the_case files_told lines_told setting read sid now others took.frame) ending (heard_at took.heard before) after took.handled told)
+            ap (λ (taken : ℕ → List ℕ). taken other) (handled_taken (the_case files_told lines_told setting read sid now others took.frame) counts_before counts ending (heard_at took.heard before) after took.handled told)
             ∙ (took.came.heard_only told).others other apart
         | inr lost ↦ elim lost.1 [
           | inl took ↦ λ other apart.

@@ -7,10 +7,14 @@ use Rattle.cd_outside.specs.Lines.{Traffic}
 use Rattle.cd_outside.specs.declared.sid.Sid.{Sid}
 use Rattle.cd_frames.specs.Reading.{Reading}
 use Rattle.cd_legal.specs.Steps as steps
+use Rattle.cd_moves.specs.Node.{Node}
 use Rattle.cd_moves.specs.declared.session.Phase.{Phase}
 use Rattle.cd_moves.specs.declared.session.Phase.TheVariants.{Gone}
+use Rattle.cd_deeds.specs.Joint.{NodeImage}
 use Rattle.cd_deeds.specs.declared.fault.Fault.{Fault}
+use Rattle.cd_node.specs.Sessions.{IsAt}
 use Rattle.cd_node.specs.declared.session.Session.{Session}
+use Rattle.cd_plain.specs.Crash.{TurnLeaves, NodeLeaves}
 use Rattle.cd_plain.specs.Arriving.{TookOfOne}
 use Rattle.cd_plain.specs.NodeState.{NodeState, HasSessions, AreRising, AreRead, WasRead}
 use Rattle.cd_plain.specs.Setting.{setting_of}
@@ -69,6 +73,23 @@ module _ (files_told lines_told : Type 0) (read : steps.Reading) (now : ℕ) (si
     readers = readers;
     failed = subst (λ (p : Phase). TurnFailed files_told lines_told (setting_of node.config) read sid.number now (others_at at s node.sessions) why before.counts now_told.counts reader_before reader (spot_of node p before) (spot_of after phase now_told)) was_is
         (subst (λ (l : List Session). TurnFailed files_told lines_told (setting_of node.config) read sid.number now l why before.counts now_told.counts reader_before reader (spot_of node was before) (spot_of after phase now_told)) others_are failed);
+  }
+
+  -- what a crash leaves
+  pub node_leaves : (first_left last_left : ℕ → NodeImage → Type 0) (from : ℕ)
+      → ((n : Node) → IsAt files_told (setting_of node.config) read sid.number others n (spot_of node was before)
+      → TurnLeaves files_told lines_told (setting_of node.config) read sid.number now others reader_before reader (spot_of node was before) n first_left last_left from)
+      → NodeLeaves files_told lines_told read now sid node before first_left last_left from
+  node_leaves first_left last_left from run = record {
+    at = at;
+    session = s;
+    reader_before = reader_before;
+    reader = reader;
+    is = record { first = first; stands = is; number = number; reads = reads };
+    leaves = subst (λ (p : Phase). (n : Node) → IsAt files_told (setting_of node.config) read sid.number (others_at at s node.sessions) n (spot_of node p before)
+        → TurnLeaves files_told lines_told (setting_of node.config) read sid.number now (others_at at s node.sessions) reader_before reader (spot_of node p before) n first_left last_left from) was_is
+        (subst (λ (l : List Session). (n : Node) → IsAt files_told (setting_of node.config) read sid.number l n (spot_of node was before)
+        → TurnLeaves files_told lines_told (setting_of node.config) read sid.number now l reader_before reader (spot_of node was before) n first_left last_left from) others_are run);
   }
 
   -- the sessions stand as before

@@ -5,7 +5,7 @@ use Rattle.cd_outside.specs.Lines.{Traffic, LineCounts}
 use Rattle.cd_entries.specs.declared.entry.Entry.{Entry}
 use Rattle.cd_frames.specs.Message.{Message}
 use Rattle.cd_frames.specs.Reading.{Reading, front}
-use Rattle.cd_frames.specs.Stream.{Front, refuses}
+use Rattle.cd_frames.specs.Stream.{Front, refuses, waits}
 use Rattle.cd_status.specs.Processes.{is_live}
 use Rattle.cd_plain.specs.declared.arriving.Came.{Came}
 use Rattle.cd_plain.specs.declared.arriving.Came.TheVariants as came
@@ -30,11 +30,12 @@ abbrev pub is_over_for : List Entry → Option ℕ → Bool
 is_over_for entries None = false
 is_over_for entries (Some n) = not (is_live entries n)
 
--- What came, and why: a whole frame stood at the front; or what is none; or the session gave no byte more, or failed.
+-- What came, and why: a whole frame stood at the front; or what is none; or no whole frame stands there, and the session gave no byte
+-- more, or failed.
 abbrev pub CameSo : Came → Reading → ℕ → LineCounts → LineCounts → Type 0
 CameSo came.Frame reader sid before now = is_some reader.given ≡ true
 CameSo came.Bad reader sid before now = IsRefused (front reader)
-CameSo came.End reader sid before now = Rose (before.ends sid) (now.ends sid) ⊎ Rose (before.faults sid) (now.faults sid)
+CameSo came.End reader sid before now = (front reader ≡ waits) × (Rose (before.ends sid) (now.ends sid) ⊎ Rose (before.faults sid) (now.faults sid))
 
 -- of no other session bytes were taken
 abbrev pub TookOfOne : ℕ → Traffic → Traffic → Type 0

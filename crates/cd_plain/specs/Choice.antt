@@ -1,7 +1,7 @@
 -- A session is taken, or begun for a Process that is due.
-use Rattle.std.specs.Prelude.{◌≡◌, ◌⊎◌, ◌<◌, ◌+◌, ◌^◌, ℕ, [], ◌∷◌, ◌++◌, length, true, false, Option, Some, None}
+use Rattle.std.specs.Prelude.{◌≡◌, ◌⊎◌, ◌<◌, ◌+◌, ◌^◌, ℕ, [], ◌∷◌, ◌++◌, length, true, false, ◌==◌, Option, Some, None}
 use Rattle.cd_outside.specs.Counts.{Rose, next}
-use Rattle.cd_outside.specs.Lines.{LineCounts}
+use Rattle.cd_outside.specs.Lines.{LineCounts, Traffic}
 use Rattle.cd_outside.specs.declared.sid.Sid.{Sid}
 use Rattle.cd_types.specs.declared.rows.Row.{Row}
 use Rattle.cd_entries.specs.Entry.{entry_bytes}
@@ -36,6 +36,28 @@ pub record HadNone (answer : Handled) (last_before last : ℕ) (before now : Lin
   pub none : last ≡ last_before
   pub counted : now.nones ≡ next before.nones
   pub same : after ≡ node
+
+-- this session is the last of the node's, and those before it are as they were
+pub record HasOpened (sid : Sid) (node after : NodeState) : Type 0 where
+  pub phase : Phase
+  pub sessions : after.sessions ≡ node.sessions ++ (record { sid = sid; phase = phase }) ∷ []
+
+-- the lines made a session in this call, their newest one, and it is the node's last
+pub record MadeOne (last_before last : ℕ) (node after : NodeState) : Type 0 where
+  pub newer : last_before < last
+  pub opened : HasOpened (record { number = last }) node after
+
+-- they made none, and the node has none more
+pub record MadeNone (last_before last : ℕ) (node after : NodeState) : Type 0 where
+  pub same : last ≡ last_before
+  pub sessions : after.sessions ≡ node.sessions
+
+abbrev pub MadeSession : ℕ → ℕ → NodeState → NodeState → Type 0
+MadeSession last_before last node after = MadeOne last_before last node after ⊎ MadeNone last_before last node after
+
+-- bytes were given to one session alone
+abbrev pub GaveOfOne : ℕ → Traffic → Traffic → Type 0
+GaveOfOne sid before now = (other : ℕ) → (sid == other) ≡ false → now.given other ≡ before.given other
 
 abbrev pub Accepted : Handled → ℕ → ℕ → LineCounts → LineCounts → NodeState → NodeState → Type 0
 Accepted answer last_before last before now node after = TookSession answer last_before last before now node after ⊎ HadNone answer last_before last before now node after

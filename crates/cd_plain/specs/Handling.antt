@@ -1,5 +1,7 @@
 -- What is done about a frame of a session, also where the files or the session fail in it.
 use Rattle.std.specs.Prelude.{◌≡◌, ◌⊎◌, ℕ, List}
+use Rattle.cd_outside.specs.Counts.{Rose}
+use Rattle.cd_outside.specs.Lines.{LineCounts}
 use Rattle.cd_frames.specs.Message.{Message}
 use Rattle.cd_legal.specs.Steps.{Reading}
 use Rattle.cd_moves.specs.Node.{Node, Deed, does, Answers}
@@ -24,23 +26,27 @@ module _ (files_told lines_told : Type 0) (setting : Setting) (read : Reading) (
   abbrev pub EndStopped : (Node → ℕ → ℕ → List Deed) → Fault → Spot → Spot → Type 0
   EndStopped rule why before after = (node : Node) → IsSo files_told setting read sid node before → WereStopped files_told lines_told sid (rule node sid now) why before after
 
-  -- the telling of trouble was stopped by the session, and then that was lost
+-- The same where the session may fail in it, by what the lines counted before and after.
+module _ (files_told lines_told : Type 0) (setting : Setting) (read : Reading) (sid now : ℕ) (counts_before counts : LineCounts) where
+  -- the telling of trouble was stopped by the session, which failed, and then that was lost
   pub record LostInTrouble (before after : Spot) : Type 0 where
     pub at : Spot
-    pub stopped : EndStopped row_trouble fault.Line before at
-    pub ended : DidEnd row_end at after
+    pub cause : Rose (counts_before.faults sid) (counts.faults sid)
+    pub stopped : EndStopped files_told lines_told setting read sid now row_trouble fault.Line before at
+    pub ended : DidEnd files_told lines_told setting read sid now row_end at after
 
   -- the partner was told of trouble, or the session was lost in that
   abbrev pub GaveUp : Spot → Spot → Type 0
-  GaveUp before after = DidEnd row_trouble before after ⊎ LostInTrouble before after
+  GaveUp before after = DidEnd files_told lines_told setting read sid now row_trouble before after ⊎ LostInTrouble before after
 
   pub record FailedInLoss (why : Fault) (before after : Spot) : Type 0 where
     pub at : Spot
-    pub stopped : EndStopped row_trouble fault.Line before at
-    pub ended : EndStopped row_end why at after
+    pub cause : Rose (counts_before.faults sid) (counts.faults sid)
+    pub stopped : EndStopped files_told lines_told setting read sid now row_trouble fault.Line before at
+    pub ended : EndStopped files_told lines_told setting read sid now row_end why at after
 
   abbrev pub GivingUpFailed : Fault → Spot → Spot → Type 0
-  GivingUpFailed why before after = EndStopped row_trouble why before after ⊎ FailedInLoss why before after
+  GivingUpFailed why before after = EndStopped files_told lines_told setting read sid now row_trouble why before after ⊎ FailedInLoss why before after
 
 -- A frame in a session of a node: whether files and lines tell, how the node is set up and reads texts, the session's number, the
 -- moment, the other sessions, and the frame.
@@ -73,33 +79,37 @@ pub record AllDone (it : Case) (before after : Spot) : Type 0 where
 abbrev pub CutOff : Case → Fault → Spot → Spot → Type 0
 CutOff it why before after = RowStopped it.files_told it.lines_told it.sid it.now why (λ node answers. row node it.sid answers it.frame) (λ node. IsOf it node before) before after
 
--- then the session was lost, or the partner was told of trouble
-pub record LostBehind (it : Case) (before after : Spot) : Type 0 where
-  pub at : Spot
-  pub cut : CutOff it fault.Line before at
-  pub ended : DidEnd it.files_told it.lines_told it.setting it.read it.sid it.now row_end at after
+-- How a frame was handled, by what the lines counted before and after.
+module _ (it : Case) (counts_before counts : LineCounts) where
+  -- the session failed, and was lost then
+  pub record LostBehind (before after : Spot) : Type 0 where
+    pub at : Spot
+    pub cause : Rose (counts_before.faults it.sid) (counts.faults it.sid)
+    pub cut : CutOff it fault.Line before at
+    pub ended : DidEnd it.files_told it.lines_told it.setting it.read it.sid it.now row_end at after
 
-pub record TroubledBehind (it : Case) (before after : Spot) : Type 0 where
-  pub at : Spot
-  pub cut : CutOff it fault.Files before at
-  pub ended : GaveUp it.files_told it.lines_told it.setting it.read it.sid it.now at after
+  -- the files failed, and the partner was told of trouble
+  pub record TroubledBehind (before after : Spot) : Type 0 where
+    pub at : Spot
+    pub cut : CutOff it fault.Files before at
+    pub ended : GaveUp it.files_told it.lines_told it.setting it.read it.sid it.now counts_before counts at after
 
--- how a frame was handled
-abbrev pub WasHandled : Case → Ending → Spot → Spot → Type 0
-WasHandled it Went before after = AllDone it before after
-WasHandled it Lost before after = LostBehind it before after
-WasHandled it Troubled before after = TroubledBehind it before after
+  abbrev pub WasHandled : Ending → Spot → Spot → Type 0
+  WasHandled Went before after = AllDone it before after
+  WasHandled Lost before after = LostBehind before after
+  WasHandled Troubled before after = TroubledBehind before after
 
--- or what was done of it where a fault came that ends the node's run
-pub record FailedLosing (it : Case) (why : Fault) (before after : Spot) : Type 0 where
-  pub at : Spot
-  pub cut : CutOff it fault.Line before at
-  pub ended : EndStopped it.files_told it.lines_told it.setting it.read it.sid it.now row_end why at after
+  -- or what was done of it where a fault came that ends the node's run
+  pub record FailedLosing (why : Fault) (before after : Spot) : Type 0 where
+    pub at : Spot
+    pub cause : Rose (counts_before.faults it.sid) (counts.faults it.sid)
+    pub cut : CutOff it fault.Line before at
+    pub ended : EndStopped it.files_told it.lines_told it.setting it.read it.sid it.now row_end why at after
 
-pub record FailedTelling (it : Case) (why : Fault) (before after : Spot) : Type 0 where
-  pub at : Spot
-  pub cut : CutOff it fault.Files before at
-  pub ended : GivingUpFailed it.files_told it.lines_told it.setting it.read it.sid it.now why at after
+  pub record FailedTelling (why : Fault) (before after : Spot) : Type 0 where
+    pub at : Spot
+    pub cut : CutOff it fault.Files before at
+    pub ended : GivingUpFailed it.files_told it.lines_told it.setting it.read it.sid it.now counts_before counts why at after
 
-abbrev pub HasFailed : Case → Fault → Spot → Spot → Type 0
-HasFailed it why before after = CutOff it why before after ⊎ (FailedLosing it why before after ⊎ FailedTelling it why before after)
+  abbrev pub HasFailed : Fault → Spot → Spot → Type 0
+  HasFailed why before after = CutOff it why before after ⊎ (FailedLosing why before after ⊎ FailedTelling why before after)

@@ -36,9 +36,11 @@ fn take_bytes<L: Lines>(reader: &mut Reader, lines: &mut L, sid: Sid) -> usize
     ensures run { L.told → (given : List Message) → Run ((L.traffic lines.old).taken sid.number) given reader.old → Run ((L.traffic lines.new).taken sid.number) given reader.new }
     ensures more { length reader.new.rest ≡ length reader.old.rest + result }
     ensures none { result ≡ 0 → Rose ((L.counts lines.old).ends sid.number) ((L.counts lines.new).ends sid.number) ⊎ Rose ((L.counts lines.old).faults sid.number) ((L.counts lines.new).faults sid.number) }
+    ensures stays { result ≡ 0 → front reader.new ≡ waits }
     ensures heard { L.told → Heard sid.number (L.traffic lines.old) (L.traffic lines.new) }
     ensures last { L.last lines.new ≡ L.last lines.old }
     ensures later { NeverFell (L.counts lines.old) (L.counts lines.new) }
+    ensures nones { (L.counts lines.new).nones ≡ (L.counts lines.old).nones }
 {
     let room = reader.room();
     match lines.receive(sid, room) {
@@ -57,9 +59,11 @@ pub fn next_frame<L: Lines>(reader: &mut Reader, lines: &mut L, sid: Sid) -> Cam
     requires to { sid.number ≤ L.last lines.old }
     ensures run { L.told → (given : List Message) → Run ((L.traffic lines.old).taken sid.number) given reader.old → Run ((L.traffic lines.new).taken sid.number) (and_one given (came_frame result reader.new.given)) reader.new }
     ensures why { CameSo result reader.new sid.number (L.counts lines.old) (L.counts lines.new) }
+    ensures at_hand { (front reader.old ≡ waits → ⊥) → lines.new ≡ lines.old }
     ensures heard { L.told → Heard sid.number (L.traffic lines.old) (L.traffic lines.new) }
     ensures last { L.last lines.new ≡ L.last lines.old }
     ensures later { NeverFell (L.counts lines.old) (L.counts lines.new) }
+    ensures nones { (L.counts lines.new).nones ≡ (L.counts lines.old).nones }
 {
     for _piece in 0..131_077_u32 {
         match reader.step() {

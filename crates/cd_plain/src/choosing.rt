@@ -14,7 +14,7 @@ ghost use Rattle.cd_moves.specs.Seen.{seen_deed};
 ghost use Rattle.cd_deeds.specs.Registry.{IsRegistry};
 ghost use Rattle.cd_deeds.specs.Stands.{spot, WereDone, WereCut, IsFaultOfSending};
 ghost use Rattle.cd_parts.specs.Desk.{desk_of};
-ghost use Rattle.cd_plain.specs.Choice.{placing_of, IsFaultOfPlacing};
+ghost use Rattle.cd_plain.specs.Choice.{placing_of, GaveOfOne, IsFaultOfPlacing};
 ghost use Rattle.cd_plain.specs.Chosen.{busy_in, placed_in, IsKnown, IsPlaced};
 
 use crate::recording::try_record;
@@ -150,7 +150,9 @@ pub(crate) fn greet<T: Texts, D: Disk, F: Files, L: Lines>(
 
     // What stands then.
     ensures same { registry.new.entries ≡ registry.old.entries }
+    ensures shelf { F.told → (F.state files.new).shelf ≡ (F.state files.old).shelf }
     ensures taken { L.told → (L.traffic lines.new).taken ≡ (L.traffic lines.old).taken }
+    ensures given { L.told → GaveOfOne sid.number (L.traffic lines.old) (L.traffic lines.new) }
     ensures registry { D.told → IsRegistry registry.new (D.state disk.new) }
     ensures header { registry.new.journal.has_header ≡ true }
     ensures sound { registry.new.journal.sound ≡ true }
@@ -166,6 +168,7 @@ pub(crate) fn greet<T: Texts, D: Disk, F: Files, L: Lines>(
     ensures disk_later { D.faults disk.old ≤ D.faults disk.new }
     ensures files_later { F.faults files.old ≤ F.faults files.new }
     ensures lines_later { NeverFell (L.counts lines.old) (L.counts lines.new) }
+    ensures nones { (L.counts lines.new).nones ≡ (L.counts lines.old).nones }
 {
     let desk = Desk {
         book: registry.book(),

@@ -1,7 +1,9 @@
 //! A node: what it has recorded, its sessions, and what it does with what happens.
 ghost use Rattle.std.specs.Prelude.{◌≡◌, ◌≢◌, ◌≤◌, ◌<◌, ◌⊎◌, ◌++◌, ◌∷◌, ◌+◌, ◌^◌, ℕ, [], length, slice_get, slice_set, true, false, option_map, Some, None, Ok, Err, OnOk, OnErr, IfOk, IfErr, IfSome};
 ghost use Rattle.cd_outside.specs.Counts.{Rose};
+ghost use Rattle.cd_outside.specs.Disk.{LeftAt};
 ghost use Rattle.cd_outside.specs.Lines.{IsFresh, NeverFell};
+ghost use Rattle.cd_outside.specs.Moments.{Moments};
 ghost use Rattle.cd_types.specs.declared.rows.Row.{Row};
 ghost use Rattle.cd_entries.specs.Entry.{entry_bytes};
 ghost use Rattle.cd_journal.specs.Journal.{length_of};
@@ -11,11 +13,14 @@ ghost use Rattle.cd_legal.specs.Promises.{HavePriorities};
 ghost use Rattle.cd_moves.specs.Node.{Keep};
 ghost use Rattle.cd_moves.specs.Rows.{may_record};
 ghost use Rattle.cd_book.specs.Book.{IsRead};
-ghost use Rattle.cd_deeds.specs.Stands.{HasFormedOrigin, IsFaultOf};
+ghost use Rattle.cd_deeds.specs.Joint.{JointAt};
+ghost use Rattle.cd_deeds.specs.Registry.{IsWithOrWithout};
+ghost use Rattle.cd_deeds.specs.Stands.{HasFormedOrigin, IsFaultOf, IsFaultOfRecording};
 ghost use Rattle.cd_node.specs.declared.session.Session.{Session};
 ghost use Rattle.cd_parts.specs.Desk.{desk_of};
-ghost use Rattle.cd_plain.specs.Choice.{placing_of, Accepted, IsFaultOfAccepting, IsFaultOfPlacing, WasChosen, WasConnected, WasLost};
+ghost use Rattle.cd_plain.specs.Choice.{placing_of, Accepted, GaveOfOne, HasOpened, MadeSession, IsFaultOfAccepting, IsFaultOfPlacing, WasChosen, WasConnected, WasLost};
 ghost use Rattle.cd_plain.specs.Chosen.{busy_in, IsKnown, IsPlaced};
+ghost use Rattle.cd_plain.specs.Crash.{NodeLeaves, LeaveLeaves};
 ghost use Rattle.cd_plain.specs.NodeState.{is_gone, IsNewest, HasNewReader, KeptSessions, HasHome, HasSessions, IsReady};
 ghost use Rattle.cd_plain.specs.Turned.{handled_of, in_phase, is_open_as, place_of, told, HadTurn, NoTurn, FailedTurn, WasLeft, FailedLeaving};
 
@@ -96,6 +101,7 @@ fn close_gone<L: Lines>(lines: &mut L, sid: Sid, phase: &Phase)
     ensures same { L.told → L.traffic lines.new ≡ L.traffic lines.old }
     ensures last { L.last lines.new ≡ L.last lines.old }
     ensures later { NeverFell (L.counts lines.old) (L.counts lines.new) }
+    ensures nones { (L.counts lines.new).nones ≡ (L.counts lines.old).nones }
 {
     if is_gone(phase) {
         lines.close(sid);
@@ -154,8 +160,9 @@ impl<T: Texts> Node<T> {
     /// What comes next in an open session is handled: its next frame, or its end. Where no open session has the number, that session is
     /// lost, and nothing is done. A session that is gone then is closed on this side, so that its partner finds its end.
     ///
-    /// `Disk`, `Files` and `Line` come only where the count of faults rose of that device, of `Line` that of the session; `JournalFull`
-    /// tells the journal's length. After each `Err` the home has to be opened again.
+    /// A fault of the files or of the session is handled, so `Err` is `Disk`, where the count of the journal's faults rose, `JournalFull`,
+    /// which tells the journal's length, or `NoMemory`. After each `Err` the home has to be opened again. A crash at any moment leaves what
+    /// a first part of one of the turn's rows leaves.
     pub fn turn<D: Disk, F: Files, L: Lines>(
         &mut self,
         sid: Sid,
@@ -175,6 +182,13 @@ impl<T: Texts> Node<T> {
             (told (F.state files.old).shelf (F.faults files.old) (L.traffic lines.old) (L.counts lines.old)) (told (F.state files.new).shelf (F.faults files.new) (L.traffic lines.new) (L.counts lines.new))) }
         ensures failed { IfErr result (λ fault. FailedTurn F.told L.told T.read now sid fault self.old self.new
             (told (F.state files.old).shelf (F.faults files.old) (L.traffic lines.old) (L.counts lines.old)) (told (F.state files.new).shelf (F.faults files.new) (L.traffic lines.new) (L.counts lines.new))) }
+        ensures none { place_of sid.number self.old.sessions ≡ None
+            → (result ≡ Ok (Handled.Lost sid)) × (self.new ≡ self.old) × (disk.new ≡ disk.old) × (files.new ≡ files.old) × (lines.new ≡ lines.old) × (beat.new ≡ beat.old) }
+
+        // What a crash leaves at each moment.
+        ensures crash { D.told → F.told → (place_of sid.number self.old.sessions ≡ None)
+            ⊎ NodeLeaves F.told L.told T.read now sid self.old (told (F.state files.old).shelf (F.faults files.old) (L.traffic lines.old) (L.counts lines.old))
+            (JointAt (D.state disk.old) (F.state files.old)) (JointAt (D.state disk.new) (F.state files.new)) beat.old }
 
         // What stands then.
         ensures ready { OnOk result (IsReady D.told F.told L.told T.read self.new (D.state disk.new) (F.state files.new) (L.traffic lines.new) beat.new (L.last lines.new) now) }
@@ -183,7 +197,8 @@ impl<T: Texts> Node<T> {
         ensures config { self.new.config ≡ self.old.config }
         ensures full { (len : ℕ) → result ≡ Err (Fault.JournalFull len) → length_of self.new.registry.journal ≡ len }
 
-        // Why it fails.
+        // Why it fails: a fault of the files or of the session is handled.
+        ensures fault { IfErr result IsFaultOfRecording }
         ensures disk { result ≡ Err Fault.Disk → Rose (D.faults disk.old) (D.faults disk.new) }
         ensures files { result ≡ Err Fault.Files → Rose (F.faults files.old) (F.faults files.new) }
         ensures line { result ≡ Err Fault.Line → Rose ((L.counts lines.old).faults sid.number) ((L.counts lines.new).faults sid.number) }
@@ -193,6 +208,7 @@ impl<T: Texts> Node<T> {
         ensures disk_later { D.faults disk.old ≤ D.faults disk.new }
         ensures files_later { F.faults files.old ≤ F.faults files.new }
         ensures lines_later { NeverFell (L.counts lines.old) (L.counts lines.new) }
+        ensures nones { (L.counts lines.new).nones ≡ (L.counts lines.old).nones }
     {
         let Some(at) = place_of(&self.sessions, sid) else {
             return Ok(Handled::Lost(sid));
@@ -233,7 +249,8 @@ impl<T: Texts> Node<T> {
     /// An open session is left: that counts as its end, and it is closed on this side, so that its partner finds its end too. Where no
     /// open session has the number, that session is lost, and nothing is done.
     ///
-    /// The causes of faults are those of a turn. After each `Err` the home has to be opened again.
+    /// The causes of faults are those of a turn. After each `Err` the home has to be opened again. A crash at any moment leaves what a first
+    /// part of that end leaves.
     pub fn leave<D: Disk, F: Files, L: Lines>(
         &mut self,
         sid: Sid,
@@ -253,6 +270,13 @@ impl<T: Texts> Node<T> {
             (told (F.state files.old).shelf (F.faults files.old) (L.traffic lines.old) (L.counts lines.old)) (told (F.state files.new).shelf (F.faults files.new) (L.traffic lines.new) (L.counts lines.new))) }
         ensures failed { IfErr result (λ fault. FailedLeaving F.told L.told T.read now sid fault self.old self.new
             (told (F.state files.old).shelf (F.faults files.old) (L.traffic lines.old) (L.counts lines.old)) (told (F.state files.new).shelf (F.faults files.new) (L.traffic lines.new) (L.counts lines.new))) }
+        ensures none { place_of sid.number self.old.sessions ≡ None
+            → (result ≡ Ok (Handled.Lost sid)) × (self.new ≡ self.old) × (disk.new ≡ disk.old) × (files.new ≡ files.old) × (lines.new ≡ lines.old) × (beat.new ≡ beat.old) }
+
+        // What a crash leaves at each moment.
+        ensures crash { D.told → F.told → (place_of sid.number self.old.sessions ≡ None)
+            ⊎ LeaveLeaves F.told T.read now sid self.old (told (F.state files.old).shelf (F.faults files.old) (L.traffic lines.old) (L.counts lines.old))
+            (JointAt (D.state disk.old) (F.state files.old)) (JointAt (D.state disk.new) (F.state files.new)) beat.old }
 
         // What stands then.
         ensures ready { OnOk result (IsReady D.told F.told L.told T.read self.new (D.state disk.new) (F.state files.new) (L.traffic lines.new) beat.new (L.last lines.new) now) }
@@ -261,7 +285,8 @@ impl<T: Texts> Node<T> {
         ensures config { self.new.config ≡ self.old.config }
         ensures full { (len : ℕ) → result ≡ Err (Fault.JournalFull len) → length_of self.new.registry.journal ≡ len }
 
-        // Why it fails.
+        // Why it fails: a fault of the files or of the session is handled.
+        ensures fault { IfErr result IsFaultOfRecording }
         ensures disk { result ≡ Err Fault.Disk → Rose (D.faults disk.old) (D.faults disk.new) }
         ensures files { result ≡ Err Fault.Files → Rose (F.faults files.old) (F.faults files.new) }
         ensures line { result ≡ Err Fault.Line → Rose ((L.counts lines.old).faults sid.number) ((L.counts lines.new).faults sid.number) }
@@ -271,6 +296,7 @@ impl<T: Texts> Node<T> {
         ensures disk_later { D.faults disk.old ≤ D.faults disk.new }
         ensures files_later { F.faults files.old ≤ F.faults files.new }
         ensures lines_later { NeverFell (L.counts lines.old) (L.counts lines.new) }
+        ensures nones { (L.counts lines.new).nones ≡ (L.counts lines.old).nones }
     {
         let Some(at) = place_of(&self.sessions, sid) else {
             return Ok(Handled::Lost(sid));
@@ -330,7 +356,7 @@ impl<T: Texts> Node<T> {
     }
 
     /// Records an entry where it may be recorded now, and answers whether that was so. With a submission comes the Process that its text
-    /// reads as.
+    /// reads as. A crash at any moment of the call leaves the journal from before it, or the journal with the entry.
     ///
     /// `Disk` comes only where the count of the journal's faults rose, and the home has to be opened again then. `JournalFull` comes only
     /// where the entry makes the journal longer than 2^30 bytes; after it, as after `NoMemory`, the journal is as it was.
@@ -347,7 +373,9 @@ impl<T: Texts> Node<T> {
         requires home { HasHome D.told T.read self.old (D.state disk.old) beat.old now }
         ensures kept { result ≡ Ok true → (may_record T.read now self.old.registry.entries entry ≡ true) × (self.new.registry.entries ≡ entry ∷ self.old.registry.entries) }
         ensures refused { result ≡ Ok false → (may_record T.read now self.old.registry.entries entry ≡ false) × (self.new.registry ≡ self.old.registry) × (disk.new ≡ disk.old) × (beat.new ≡ beat.old) }
+        ensures fits { result ≡ Ok true → length_of self.old.registry.journal + 5 + length (entry_bytes entry) ≤ 2 ^ 30 }
         ensures err { OnErr result (self.new.registry.entries ≡ self.old.registry.entries) }
+        ensures moments { D.told → result ≢ Ok false → Moments (LeftAt (D.state disk.old)) (LeftAt (D.state disk.new)) beat.old (IsWithOrWithout entry self.old.registry.entries) }
         ensures home { result ≢ Err Fault.Disk → HasHome D.told T.read self.new (D.state disk.new) beat.new now }
         ensures legal { is_legal T.read self.new.registry.entries ≡ true }
         ensures sessions { KeptSessions self.old self.new }
@@ -376,12 +404,13 @@ impl<T: Texts> Node<T> {
 
     /// The next session of another node is taken. `NoMore` exactly where the lines have none.
     ///
-    /// `Line` comes only where the count of listening and accepting rose. After each `Err` the node is as it was; after `NoMemory` a
-    /// session may be left that the node doesn't know.
+    /// `Line` comes only where the count of listening and accepting rose. After each `Err` the node is as it was, and has its sessions; after
+    /// `NoMemory` a session may be left that the node doesn't know.
     pub fn accept<L: Lines>(&mut self, lines: &mut L) -> Result<Handled, Fault>
         requires sessions { HasSessions L.told self.old (L.traffic lines.old) (L.last lines.old) }
         ensures accepted { IfOk result (λ handled. Accepted handled (L.last lines.old) (L.last lines.new) (L.counts lines.old) (L.counts lines.new) self.old self.new) }
-        ensures sessions { OnOk result (HasSessions L.told self.new (L.traffic lines.new) (L.last lines.new)) }
+        ensures sessions { HasSessions L.told self.new (L.traffic lines.new) (L.last lines.new) }
+        ensures fresh { L.told → L.last lines.old < L.last lines.new → IsFresh (L.last lines.new) (L.traffic lines.new) }
         ensures registry { self.new.registry ≡ self.old.registry }
         ensures config { self.new.config ≡ self.old.config }
         ensures holdings { self.new.holdings ≡ self.old.holdings }
@@ -451,7 +480,7 @@ impl<T: Texts> Node<T> {
     /// began and failed at once: it is closed, and the Process is placed as where its partner isn't connected.
     ///
     /// `Disk` comes only where the count of the journal's faults rose; `JournalFull` tells the journal's length, and comes only where the
-    /// placing makes it longer than 2^30 bytes. After each `Err` the home has to be opened again.
+    /// placing makes it longer than 2^30 bytes; where none is due, only `NoMemory` comes. After each `Err` the home has to be opened again.
     pub fn choose<D: Disk, F: Files, L: Lines>(
         &mut self,
         now: Moment,
@@ -469,6 +498,13 @@ impl<T: Texts> Node<T> {
         ensures chosen { IfOk result (λ handled. (row : Row) → next_due self.old.registry.entries now (busy_in self.old.sessions) ≡ Some row
             → WasChosen F.told L.told T.read now row handled self.old self.new
             (told (F.state files.old).shelf (F.faults files.old) (L.traffic lines.old) (L.counts lines.old)) (told (F.state files.new).shelf (F.faults files.new) (L.traffic lines.new) (L.counts lines.new))) }
+        ensures made { OnOk result (MadeSession (L.last lines.old) (L.last lines.new) self.old self.new) }
+        ensures fresh { L.told → L.last lines.old < L.last lines.new → IsFresh (L.last lines.new) (L.traffic lines.old) }
+
+        // What is as it was, also where it fails: the files, the bytes taken of sessions, and those given to the ones before it.
+        ensures shelf { F.told → (F.state files.new).shelf ≡ (F.state files.old).shelf }
+        ensures taken { L.told → (L.traffic lines.new).taken ≡ (L.traffic lines.old).taken }
+        ensures given { L.told → (other : ℕ) → other ≤ L.last lines.old → (L.traffic lines.new).given other ≡ (L.traffic lines.old).given other }
 
         // What stands then.
         ensures ready { OnOk result (IsReady D.told F.told L.told T.read self.new (D.state disk.new) (F.state files.new) (L.traffic lines.new) beat.new (L.last lines.new) now) }
@@ -480,6 +516,8 @@ impl<T: Texts> Node<T> {
         // Why it fails.
         ensures fault { IfErr result (λ fault. (row : Row) → next_due self.old.registry.entries now (busy_in self.old.sessions) ≡ Some row
             → IsFaultOfPlacing (placing_of (desk_of T.read self.old.config self.old.registry.entries) now row) fault) }
+        ensures idle_fault { IfErr result (λ fault. next_due self.old.registry.entries now (busy_in self.old.sessions) ≡ None
+            → (fault ≡ Fault.NoMemory) × (self.new ≡ self.old) × (disk.new ≡ disk.old) × (files.new ≡ files.old) × (lines.new ≡ lines.old) × (beat.new ≡ beat.old)) }
         ensures full { (len : ℕ) → result ≡ Err (Fault.JournalFull len) → length_of self.new.registry.journal ≡ len }
         ensures disk { result ≡ Err Fault.Disk → Rose (D.faults disk.old) (D.faults disk.new) }
 
@@ -487,6 +525,7 @@ impl<T: Texts> Node<T> {
         ensures disk_later { D.faults disk.old ≤ D.faults disk.new }
         ensures files_later { F.faults files.old ≤ F.faults files.new }
         ensures lines_later { NeverFell (L.counts lines.old) (L.counts lines.new) }
+        ensures nones { (L.counts lines.new).nones ≡ (L.counts lines.old).nones }
     {
         let Ok(due) = self.due(now) else {
             return Err(Fault::NoMemory);
@@ -533,6 +572,11 @@ impl<T: Texts> Node<T> {
             (told (F.state files.old).shelf (F.faults files.old) (L.traffic lines.old) (L.counts lines.old)) (told (F.state files.new).shelf (F.faults files.new) (L.traffic lines.new) (L.counts lines.new)) sid
             ⊎ WasLost F.told L.told T.read now chosen.now handled self.old self.new
             (told (F.state files.old).shelf (F.faults files.old) (L.traffic lines.old) (L.counts lines.old)) (told (F.state files.new).shelf (F.faults files.new) (L.traffic lines.new) (L.counts lines.new)) sid) }
+        ensures opened { IfOk result (λ _. HasOpened sid self.old self.new) }
+        ensures shelf { F.told → (F.state files.new).shelf ≡ (F.state files.old).shelf }
+        ensures taken { L.told → (L.traffic lines.new).taken ≡ (L.traffic lines.old).taken }
+        ensures given { L.told → GaveOfOne sid.number (L.traffic lines.old) (L.traffic lines.new) }
+        ensures last { L.last lines.new ≡ L.last lines.old }
         ensures ready { OnOk result (IsReady D.told F.told L.told T.read self.new (D.state disk.new) (F.state files.new) (L.traffic lines.new) beat.new (L.last lines.new) now) }
         ensures home { result ≢ Err Fault.Disk → HasHome D.told T.read self.new (D.state disk.new) beat.new now }
         ensures legal { is_legal T.read self.new.registry.entries ≡ true }
@@ -545,6 +589,7 @@ impl<T: Texts> Node<T> {
         ensures disk_later { D.faults disk.old ≤ D.faults disk.new }
         ensures files_later { F.faults files.old ≤ F.faults files.new }
         ensures lines_later { NeverFell (L.counts lines.old) (L.counts lines.new) }
+        ensures nones { (L.counts lines.new).nones ≡ (L.counts lines.old).nones }
     {
         let mut phase = Phase::Gone;
         match greet(

@@ -47,6 +47,7 @@ pub fn try_record<T: Texts, D: Disk>(
 
     ensures kept { result ≡ Ok true → (may_record T.read now registry.old.entries entry ≡ true) × (registry.new.entries ≡ entry ∷ registry.old.entries) }
     ensures refused { result ≡ Ok false → (may_record T.read now registry.old.entries entry ≡ false) × (registry.new ≡ registry.old) × (disk.new ≡ disk.old) × (beat.new ≡ beat.old) }
+    ensures fits { result ≡ Ok true → length_of registry.old.journal + 5 + length (entry_bytes entry) ≤ 2 ^ 30 }
     ensures err { OnErr result (registry.new.entries ≡ registry.old.entries) }
     ensures moments { D.told → result ≢ Ok false → Moments (LeftAt (D.state disk.old)) (LeftAt (D.state disk.new)) beat.old (IsWithOrWithout entry registry.old.entries) }
 

@@ -9,8 +9,12 @@ ghost use Rattle.cd_journal.specs.Journal.{length_of};
 ghost use Rattle.cd_status.specs.Processes.{latest};
 ghost use Rattle.cd_legal.specs.Legal.{is_legal};
 ghost use Rattle.cd_legal.specs.Promises.{HavePriorities};
+ghost use Rattle.cd_moves.specs.Node.{Node};
+ghost use Rattle.cd_deeds.specs.Joint.{JointAt};
 ghost use Rattle.cd_deeds.specs.Registry.{IsRegistry};
-ghost use Rattle.cd_deeds.specs.Stands.{spot};
+ghost use Rattle.cd_deeds.specs.Stands.{spot, IsFaultOfRecording};
+ghost use Rattle.cd_node.specs.Sessions.{IsAt};
+ghost use Rattle.cd_plain.specs.Crash.{TroubleLeaves, FrameLeaves};
 ghost use Rattle.cd_plain.specs.Handling.{the_case, WasHandled, HasFailed, GaveUp, GivingUpFailed};
 
 use crate::ending::Ending;
@@ -49,12 +53,17 @@ fn give_up<T: Texts, R: Rules<T>, D: Disk, F: Files, L: Lines>(
     requires to { sid.number ≤ L.last lines.old }
 
     // What is done.
-    ensures done { OnOk result (GaveUp F.told L.told (R.setting rules.now) T.read sid.number now
+    ensures done { OnOk result (GaveUp F.told L.told (R.setting rules.now) T.read sid.number now (L.counts lines.old) (L.counts lines.new)
         (spot registry.old.entries (F.state files.old).shelf phase.old holders.old (L.traffic lines.old))
         (spot registry.new.entries (F.state files.new).shelf phase.new holders.new (L.traffic lines.new))) }
-    ensures failed { IfErr result (λ fault. GivingUpFailed F.told L.told (R.setting rules.now) T.read sid.number now fault
+    ensures failed { IfErr result (λ fault. GivingUpFailed F.told L.told (R.setting rules.now) T.read sid.number now (L.counts lines.old) (L.counts lines.new) fault
         (spot registry.old.entries (F.state files.old).shelf phase.old holders.old (L.traffic lines.old))
         (spot registry.new.entries (F.state files.new).shelf phase.new holders.new (L.traffic lines.new))) }
+
+    // What a crash leaves at each moment.
+    ensures crash { D.told → F.told → TroubleLeaves F.told L.told (R.setting rules.now) T.read sid.number now
+        (spot registry.old.entries (F.state files.old).shelf phase.old holders.old (L.traffic lines.old))
+        (JointAt (D.state disk.old) (F.state files.old)) (JointAt (D.state disk.new) (F.state files.new)) beat.old }
 
     // What stands then.
     ensures legal { is_legal T.read registry.new.entries ≡ true }
@@ -65,6 +74,7 @@ fn give_up<T: Texts, R: Rules<T>, D: Disk, F: Files, L: Lines>(
     ensures full { (len : ℕ) → result ≡ Err (Fault.JournalFull len) → length_of registry.new.journal ≡ len }
 
     // Why it fails.
+    ensures fault { IfErr result IsFaultOfRecording }
     ensures disk { result ≡ Err Fault.Disk → Rose (D.faults disk.old) (D.faults disk.new) }
     ensures files { result ≡ Err Fault.Files → Rose (F.faults files.old) (F.faults files.new) }
     ensures line { result ≡ Err Fault.Line → Rose ((L.counts lines.old).faults sid.number) ((L.counts lines.new).faults sid.number) }
@@ -76,6 +86,7 @@ fn give_up<T: Texts, R: Rules<T>, D: Disk, F: Files, L: Lines>(
     ensures disk_later { D.faults disk.old ≤ D.faults disk.new }
     ensures files_later { F.faults files.old ≤ F.faults files.new }
     ensures lines_later { NeverFell (L.counts lines.old) (L.counts lines.new) }
+    ensures nones { (L.counts lines.new).nones ≡ (L.counts lines.old).nones }
 {
     match on_trouble(
         alloc, rules, registry, phase, holders, sid, now, disk, files, lines, beat,
@@ -94,7 +105,7 @@ fn give_up<T: Texts, R: Rules<T>, D: Disk, F: Files, L: Lines>(
 /// A frame of a session is handled, by the rules; where the files fail in it, the partner is told of trouble and the session is
 /// closed; where the session fails in it, that is its end. The requirements are those of `on_frame`.
 ///
-/// After `Disk` the journal isn't sound; after each `Err` the home is opened again.
+/// `Err` is `Disk`, `JournalFull` or `NoMemory`. After `Disk` the journal isn't sound; after each `Err` the home is opened again.
 pub fn take_frame<T: Texts, R: Rules<T>, D: Disk, F: Files, L: Lines>(
     alloc: Global,
     rules: &R,
@@ -123,12 +134,18 @@ pub fn take_frame<T: Texts, R: Rules<T>, D: Disk, F: Files, L: Lines>(
     requires to { sid.number ≤ L.last lines.old }
 
     // What is done.
-    ensures handled { IfOk result (λ ending. WasHandled (the_case F.told L.told (R.setting rules.now) T.read sid.number now others.now (message_of frame.now)) ending
+    ensures handled { IfOk result (λ ending. WasHandled (the_case F.told L.told (R.setting rules.now) T.read sid.number now others.now (message_of frame.now)) (L.counts lines.old) (L.counts lines.new) ending
         (spot registry.old.entries (F.state files.old).shelf phase.old holders.old (L.traffic lines.old))
         (spot registry.new.entries (F.state files.new).shelf phase.new holders.new (L.traffic lines.new))) }
-    ensures failed { IfErr result (λ fault. HasFailed (the_case F.told L.told (R.setting rules.now) T.read sid.number now others.now (message_of frame.now)) fault
+    ensures failed { IfErr result (λ fault. HasFailed (the_case F.told L.told (R.setting rules.now) T.read sid.number now others.now (message_of frame.now)) (L.counts lines.old) (L.counts lines.new) fault
         (spot registry.old.entries (F.state files.old).shelf phase.old holders.old (L.traffic lines.old))
         (spot registry.new.entries (F.state files.new).shelf phase.new holders.new (L.traffic lines.new))) }
+
+    // What a crash leaves at each moment.
+    ensures crash { D.told → F.told → (node : Node) → IsAt F.told (R.setting rules.now) T.read sid.number others.now node (spot registry.old.entries (F.state files.old).shelf phase.old holders.old (L.traffic lines.old))
+        → FrameLeaves (the_case F.told L.told (R.setting rules.now) T.read sid.number now others.now (message_of frame.now))
+        (spot registry.old.entries (F.state files.old).shelf phase.old holders.old (L.traffic lines.old)) node
+        (JointAt (D.state disk.old) (F.state files.old)) (JointAt (D.state disk.new) (F.state files.new)) beat.old }
 
     // What stands then.
     ensures legal { is_legal T.read registry.new.entries ≡ true }
@@ -139,6 +156,7 @@ pub fn take_frame<T: Texts, R: Rules<T>, D: Disk, F: Files, L: Lines>(
     ensures full { (len : ℕ) → result ≡ Err (Fault.JournalFull len) → length_of registry.new.journal ≡ len }
 
     // Why it ends so.
+    ensures fault { IfErr result IsFaultOfRecording }
     ensures disk { result ≡ Err Fault.Disk → Rose (D.faults disk.old) (D.faults disk.new) }
     ensures files { result ≡ Err Fault.Files → Rose (F.faults files.old) (F.faults files.new) }
     ensures line { result ≡ Err Fault.Line → Rose ((L.counts lines.old).faults sid.number) ((L.counts lines.new).faults sid.number) }
@@ -152,6 +170,7 @@ pub fn take_frame<T: Texts, R: Rules<T>, D: Disk, F: Files, L: Lines>(
     ensures disk_later { D.faults disk.old ≤ D.faults disk.new }
     ensures files_later { F.faults files.old ≤ F.faults files.new }
     ensures lines_later { NeverFell (L.counts lines.old) (L.counts lines.new) }
+    ensures nones { (L.counts lines.new).nones ≡ (L.counts lines.old).nones }
 {
     match on_frame(
         alloc, rules, registry, others, phase, holders, sid, now, disk, files, lines, frame,

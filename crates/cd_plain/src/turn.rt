@@ -9,9 +9,13 @@ ghost use Rattle.cd_status.specs.Processes.{latest};
 ghost use Rattle.cd_legal.specs.Legal.{is_legal};
 ghost use Rattle.cd_legal.specs.Promises.{HavePriorities};
 ghost use Rattle.cd_moves.specs.Closing.{own_number};
+ghost use Rattle.cd_moves.specs.Node.{Node};
+ghost use Rattle.cd_deeds.specs.Joint.{JointAt};
 ghost use Rattle.cd_deeds.specs.Registry.{IsRegistry};
-ghost use Rattle.cd_deeds.specs.Stands.{spot};
+ghost use Rattle.cd_deeds.specs.Stands.{spot, IsFaultOfRecording};
 ghost use Rattle.cd_plain.specs.Arriving.{is_over_for};
+ghost use Rattle.cd_node.specs.Sessions.{IsAt};
+ghost use Rattle.cd_plain.specs.Crash.{TurnLeaves};
 ghost use Rattle.cd_plain.specs.Turn.{MayBeLost, TookTurn, TurnFailed};
 
 use crate::arriving::{frame_in, next_frame};
@@ -38,8 +42,9 @@ fn is_over_for<T: Texts>(book: &Book<T>, number: Option<ProcNo>) -> bool
 }
 
 /// What comes next in a session is handled: its next frame, or its end. No byte is taken of a session whose Process isn't live any
-/// more. The session's phase is lent, and the other sessions are handed in beside it. `Lost` comes only where the Process isn't live any
-/// more, where what came is no frame, or where the session ended or failed; `Troubled` only where the count of the files' faults rose.
+/// more, or where a whole frame stands in its reader. The session's phase is lent, and the other sessions are handed in beside it. `Lost`
+/// comes only where the Process isn't live any more, where what came is no frame, or where the session ended or failed; `Troubled` only
+/// where the count of the files' faults rose. `Err` is `Disk`, `JournalFull` or `NoMemory`.
 pub fn take_turn<T: Texts, R: Rules<T>, D: Disk, F: Files, L: Lines>(
     alloc: Global,
     rules: &R,
@@ -77,6 +82,12 @@ pub fn take_turn<T: Texts, R: Rules<T>, D: Disk, F: Files, L: Lines>(
 
     ensures unheard { L.told → is_over_for registry.old.entries (own_number phase.old) ≡ true → (L.traffic lines.new).taken ≡ (L.traffic lines.old).taken }
 
+    // What a crash leaves at each moment.
+    ensures crash { D.told → F.told → (node : Node) → IsAt F.told (R.setting rules.now) T.read sid.number others.now node (spot registry.old.entries (F.state files.old).shelf phase.old holders.old (L.traffic lines.old))
+        → TurnLeaves F.told L.told (R.setting rules.now) T.read sid.number now others.now reader.old reader.new
+        (spot registry.old.entries (F.state files.old).shelf phase.old holders.old (L.traffic lines.old)) node
+        (JointAt (D.state disk.old) (F.state files.old)) (JointAt (D.state disk.new) (F.state files.new)) beat.old }
+
     // What stands then.
     ensures legal { is_legal T.read registry.new.entries ≡ true }
     ensures on_time { latest registry.new.entries ≤ now }
@@ -86,6 +97,7 @@ pub fn take_turn<T: Texts, R: Rules<T>, D: Disk, F: Files, L: Lines>(
     ensures full { (len : ℕ) → result ≡ Err (Fault.JournalFull len) → length_of registry.new.journal ≡ len }
 
     // Why it fails.
+    ensures fault { IfErr result IsFaultOfRecording }
     ensures disk { result ≡ Err Fault.Disk → Rose (D.faults disk.old) (D.faults disk.new) }
     ensures files { result ≡ Err Fault.Files → Rose (F.faults files.old) (F.faults files.new) }
     ensures line { result ≡ Err Fault.Line → Rose ((L.counts lines.old).faults sid.number) ((L.counts lines.new).faults sid.number) }
@@ -99,6 +111,7 @@ pub fn take_turn<T: Texts, R: Rules<T>, D: Disk, F: Files, L: Lines>(
     ensures disk_later { D.faults disk.old ≤ D.faults disk.new }
     ensures files_later { F.faults files.old ≤ F.faults files.new }
     ensures lines_later { NeverFell (L.counts lines.old) (L.counts lines.new) }
+    ensures nones { (L.counts lines.new).nones ≡ (L.counts lines.old).nones }
 {
     if is_over_for(registry.book(), own_number(phase)) {
         return match on_end(

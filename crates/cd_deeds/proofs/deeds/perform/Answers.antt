@@ -26,6 +26,7 @@ loop-deed-init g c = record {
   disk_later = omega arith;
   files_later = omega arith;
   lines_later = fell_none (g.L.Lines.counts c.args.lines.now);
+  nones = refl;
 }
 
 pub one-requires-clause-ready : goal.one-requires-clause-ready
@@ -67,6 +68,7 @@ loop-deed-preserved g c =
       disk_later = omega (arith, i.disk_later, e.disk_later);
       files_later = omega (arith, i.files_later, e.files_later);
       lines_later = fell_then (g.L.Lines.counts c.args.lines.now) (g.L.Lines.counts c.loop-deed.lines) (g.L.Lines.counts c.one.new.lines) i.lines_later e.lines_later;
+      nones = e.nones ∙ i.nones;
     }
 
 pub returns-in-Err-clause-cut : goal.returns-in-Err-clause-cut

@@ -1,5 +1,5 @@
 use Rattle.std.proofs.Common.{◌≤◌, ℕ, sym, subst, ◌∙◌}
-use Rattle.cd_deeds.proofs.Sending.{sendable_here, gave_some, gave_next, fell_then, rose_later}
+use Rattle.cd_deeds.proofs.Sending.{sendable_here, giving_here, gave_some, gave_next, fell_then, rose_later}
 use Rattle.cd_deeds.proofs.session.send_all.Goals as goal
 
 pub send-requires-clause-to : goal.send-requires-clause-to
@@ -13,6 +13,7 @@ loop-frame-preserved g c = let e = c.in-Ok.ensures in record {
   sent = λ told. gave_next c.args.sid.number c.args.frames.now c.loop-frame.frame-index c.frame-item.result (g.L.Lines.traffic c.args.lines.now) (g.L.Lines.traffic c.loop-frame.lines) (g.L.Lines.traffic c.send.new.lines) c.loop-frame-test.true c.frame-item.is (c.loop-frame.invariant.sent told) (e.sent told);
   last = e.last ∙ c.loop-frame.invariant.last;
   later = fell_then (g.L.Lines.counts c.args.lines.now) (g.L.Lines.counts c.loop-frame.lines) (g.L.Lines.counts c.send.new.lines) c.loop-frame.invariant.later e.later;
+  nones = e.nones ∙ c.loop-frame.invariant.nones;
 }
 
 pub returns-in-Err-clause-some : goal.returns-in-Err-clause-some
@@ -26,3 +27,9 @@ returns-in-Err-clause-last g c = c.in-Err.ensures.last ∙ c.loop-frame.invarian
 
 pub returns-in-Err-clause-cause : goal.returns-in-Err-clause-cause
 returns-in-Err-clause-cause g c = λ is. rose_later ((g.L.Lines.counts c.args.lines.now).faults c.args.sid.number) ((g.L.Lines.counts c.loop-frame.lines).faults c.args.sid.number) ((g.L.Lines.counts c.send.new.lines).faults c.args.sid.number) (c.loop-frame.invariant.later.faults c.args.sid.number) (c.in-Err.ensures.cause is)
+
+pub returns-in-Err-clause-fault : goal.returns-in-Err-clause-fault
+returns-in-Err-clause-fault g c = giving_here c.args.frames.now c.loop-frame.frame-index c.frame-item.result c.in-Err.fault c.loop-frame-test.true c.frame-item.is c.in-Err.ensures.fault
+
+pub returns-in-Err-clause-nones : goal.returns-in-Err-clause-nones
+returns-in-Err-clause-nones g c = c.in-Err.ensures.nones ∙ c.loop-frame.invariant.nones

@@ -9,4 +9,5 @@ invariant-loop-frame g l = record {
   sent : g.L.Lines.told → g.L.Lines.traffic l.lines ≡ gave l.fn.sid.number (map seen_frame (take l.frame-index l.fn.frames)) (g.L.Lines.traffic l.fn.lines);
   last : g.L.Lines.last l.lines ≡ g.L.Lines.last l.fn.lines;
   later : NeverFell (g.L.Lines.counts l.fn.lines) (g.L.Lines.counts l.lines);
+  nones : (g.L.Lines.counts l.lines).nones ≡ (g.L.Lines.counts l.fn.lines).nones;
 }

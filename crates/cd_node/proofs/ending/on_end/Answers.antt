@@ -8,7 +8,8 @@ use Rattle.cd_deeds.specs.Joint.{JointAt, IsWithin}
 use Rattle.cd_deeds.specs.Stands.{spot, WereDone, WereCut}
 use Rattle.cd_deeds.specs.declared.fault.Fault.TheVariants as fault
 use Rattle.cd_node.proofs.Crash.{nothing_moves}
-use Rattle.cd_node.proofs.Ends.{ends_is, ends_fit, close_may, none_stopped}
+use Rattle.cd_node.proofs.Ends.{ends_is, ends_fit, close_may, none_stopped, close_fault}
+use Rattle.cd_node.specs.Question.{desk_with}
 use Rattle.cd_node.proofs.Parts.{done_legal, done_on_time, cut_legal, cut_on_time}
 use Rattle.cd_node.proofs.ending.on_end.Goals as goal
 
@@ -97,3 +98,10 @@ returns-in-Err-perform-clause-on_time g c =
     (spot c.perform.new.registry.entries (g.F.Files.state c.perform.new.files).shelf c.perform.new.phase c.perform.new.holders (g.L.Lines.traffic c.perform.new.lines))
     c.requires.on_time (ends_fit (g.R.Rules.setting c.args.rules.now) g.T.Texts.read c.args.now close c.book.result.now.entries (map seen_deed c.in-Ok.deeds.items) c.args.registry.now.entries c.args.phase.now c.book.ensures c.in-Ok.ensures.deeds
     (close_may (g.R.Rules.setting c.args.rules.now) g.T.Texts.read c.requires.priorities c.args.now c.args.registry.now.entries c.args.phase.now c.requires.legal c.requires.on_time)) c.in-Err-perform.ensures.cut
+
+pub returns-in-Err-perform-clause-fault : goal.returns-in-Err-perform-clause-fault
+returns-in-Err-perform-clause-fault g c =
+    close_fault g.F.Files.told g.L.Lines.told c.args.sid.number (map seen_deed c.in-Ok.deeds.items) c.in-Err-perform.fault
+    (spot c.args.registry.now.entries (g.F.Files.state c.args.files.now).shelf c.args.phase.now c.args.holders.now (g.L.Lines.traffic c.args.lines.now))
+    (spot c.perform.new.registry.entries (g.F.Files.state c.perform.new.files).shelf c.perform.new.phase c.perform.new.holders (g.L.Lines.traffic c.perform.new.lines))
+    (desk_with (g.R.Rules.setting c.args.rules.now) g.T.Texts.read c.book.result.now.entries) c.args.now c.args.phase.now c.in-Ok.ensures.deeds c.in-Err-perform.ensures.cut

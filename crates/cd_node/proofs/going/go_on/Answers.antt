@@ -26,6 +26,7 @@ loop-turn-init g c = record {
   disk_later = omega arith;
   files_later = omega arith;
   lines_later = fell_none (g.L.Lines.counts c.args.lines.now);
+  nones = refl;
 }
 
 pub returns-then-is_done-clause-done : goal.returns-then-is_done-clause-done
@@ -70,6 +71,7 @@ loop-turn-preserved g c =
       disk_later = omega (arith, i.disk_later, e.disk_later);
       files_later = omega (arith, i.files_later, e.files_later);
       lines_later = fell_then (g.L.Lines.counts c.args.lines.now) (g.L.Lines.counts c.loop-turn.lines) (g.L.Lines.counts c.go_behind.new.lines) i.lines_later e.lines_later;
+      nones = e.nones ∙ i.nones;
     }
 
 pub returns-clause-done : goal.returns-clause-done

@@ -35,4 +35,5 @@ invariant-loop-turn g l = record {
   disk_later : g.D.Disk.faults l.fn.disk ≤ g.D.Disk.faults l.disk;
   files_later : g.F.Files.faults l.fn.files ≤ g.F.Files.faults l.files;
   lines_later : NeverFell (g.L.Lines.counts l.fn.lines) (g.L.Lines.counts l.lines);
+  nones : (g.L.Lines.counts l.lines).nones ≡ (g.L.Lines.counts l.fn.lines).nones;
 }

@@ -4,8 +4,9 @@ use Rattle.cd_outside.specs.Lines.{Traffic, IsFresh, CountsIf, is_no_session}
 use Rattle.cd_outside.specs.declared.sid.Sid.{Sid}
 use Rattle.cd_moves.specs.declared.session.Phase.TheVariants.{Fresh}
 use Rattle.cd_node.specs.declared.session.Session.{Session}
+use Rattle.cd_plain.specs.NodeState.{NodeState, HasSessions}
 use Rattle.cd_plain.proofs.Opening.{opened}
-use Rattle.cd_plain.proofs.Places.{newest_of}
+use Rattle.cd_plain.proofs.Places.{newest_of, rising_later, read_same}
 use Rattle.cd_plain.proofs.node.Node.accept.Goals as goal
 
 pub returns-in-Ok-clause-accepted : goal.returns-in-Ok-clause-accepted
@@ -31,3 +32,11 @@ returns-in-Ok-clause-sessions g c =
     (λ told. ap (λ (t : Traffic). t.taken) (c.accept.ensures.same told))
     (λ told. ap (λ (t : Traffic). t.taken c.in-Ok-Some.sid.number) (sym (c.accept.ensures.same told)) ∙ (subst (λ (o : Option Sid). IfSome o (λ s. IsFresh s.number (g.L.Lines.traffic c.accept.new.self))) c.in-Ok-Some.field-0-is (c.in-Ok-Some.ensures.fresh told)).taken)
     c.in-Ok.ensures.opened c.in-Ok.ensures.read
+
+pub returns-in-Err-open-clause-sessions : goal.returns-in-Err-open-clause-sessions
+returns-in-Err-open-clause-sessions g c =
+    let newest = subst (λ (o : Option Sid). IfSome o (λ s. (g.L.Lines.last c.args.lines.now < s.number) × (g.L.Lines.last c.accept.new.self ≡ s.number))) c.in-Ok-Some.field-0-is c.in-Ok-Some.ensures.newest in
+    subst (λ (n : NodeState). HasSessions g.L.Lines.told n (g.L.Lines.traffic c.accept.new.self) (g.L.Lines.last c.accept.new.self)) (sym c.in-Err-open.ensures.err) (record {
+      sids = rising_later 0 (g.L.Lines.last c.args.lines.now) (g.L.Lines.last c.accept.new.self) c.args.self.now.sessions c.requires.sessions.sids (omega (arith, newest.0, newest.1));
+      reads = λ told. read_same (g.L.Lines.traffic c.args.lines.now) (g.L.Lines.traffic c.accept.new.self) c.args.self.now.sessions c.args.self.now.readings (ap (λ (t : Traffic). t.taken) (c.accept.ensures.same told)) (c.requires.sessions.reads told);
+    })

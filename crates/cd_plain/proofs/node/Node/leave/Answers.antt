@@ -1,11 +1,16 @@
-use Rattle.std.proofs.Common.{◌≡◌, inl, ℕ, ◌≤◌, List, Some, Err, refl, sym, ap, subst, ◌∙◌, arith}
+use Rattle.std.proofs.Common.{◌≡◌, inl, inr, ℕ, ◌≤◌, List, Some, Err, refl, sym, ap, subst, ◌∙◌, arith}
 use Rattle.cd_outside.specs.Lines.{Traffic}
+use Rattle.cd_outside.specs.Moments.{Moments}
+use Rattle.cd_moves.specs.Node.{Node}
 use Rattle.cd_moves.specs.Rows.{row_end}
 use Rattle.cd_moves.specs.declared.session.Phase.{Phase}
+use Rattle.cd_deeds.specs.Joint.{JointAt, IsWithin}
 use Rattle.cd_deeds.specs.Stands.{spot}
+use Rattle.cd_node.specs.Going.{IsSo}
 use Rattle.cd_deeds.specs.declared.fault.Fault.{Fault}
 use Rattle.cd_deeds.specs.declared.fault.Fault.TheVariants as fault
 use Rattle.cd_node.specs.declared.session.Session.{Session}
+use Rattle.cd_plain.specs.Crash.{LeaveLeaves}
 use Rattle.cd_plain.specs.Handling.{DidEnd, EndStopped}
 use Rattle.cd_plain.specs.NodeState.{NodeState, HasSessions, IsReady}
 use Rattle.cd_plain.specs.Setting.{setting_of}
@@ -149,3 +154,41 @@ returns-in-Err-clause-home g c = λ other.
       registry = λ told. e.registry told (λ h. let is : c.in-Err.fault ≡ fault.Disk = cc in not_disk is);
       order = e.order;
     }
+
+pub returns-in-Ok-clause-crash : goal.returns-in-Ok-clause-crash
+returns-in-Ok-clause-crash g c = λ told_disk files_told.
+    let xs : List Session = c.self.inside.sessions.items in
+    let at : ℕ = c.in-Some.at in
+    let first = subst (λ (l : List Session). place_of c.args.sid.number l ≡ Some at) c.deref.ensures.value (sym c.in-Some.ensures) in
+    let one = found xs at c.args.sid.number first in
+    let s : Session = one.session in
+    let swapped = c.swap_phase-phase.ensures.swapped s one.is in
+    let start = told (g.F.Files.state c.args.files.now).shelf (g.F.Files.faults c.args.files.now) (g.L.Lines.traffic c.args.lines.now) (g.L.Lines.counts c.args.lines.now) in
+    inr (subst (λ (n : NodeState). LeaveLeaves g.F.Files.told g.T.Texts.read c.args.now c.args.sid n start (JointAt (g.D.Disk.state c.args.disk.now) (g.F.Files.state c.args.files.now)) (JointAt (g.D.Disk.state c.on_end-ending.new.disk) (g.F.Files.state c.on_end-ending.new.files)) c.args.beat.now) c.self.view_is (record {
+      at = at;
+      session = s;
+      open_at = first;
+      stands = one.is;
+      moments = subst (λ (p : Phase). (n : Node) → IsSo g.F.Files.told (setting_of c.self.inside.config) g.T.Texts.read c.args.sid.number n (spot c.self.inside.registry.entries (g.F.Files.state c.args.files.now).shelf p c.self.inside.holders (g.L.Lines.traffic c.args.lines.now))
+          → Moments (JointAt (g.D.Disk.state c.args.disk.now) (g.F.Files.state c.args.files.now)) (JointAt (g.D.Disk.state c.on_end-ending.new.disk) (g.F.Files.state c.on_end-ending.new.files)) c.args.beat.now (IsWithin c.args.sid.number (row_end n c.args.sid.number c.args.now) n)) swapped.0
+          (c.on_end-ending.ensures.moments told_disk files_told);
+    }))
+
+pub returns-in-Err-clause-crash : goal.returns-in-Err-clause-crash
+returns-in-Err-clause-crash g c = λ told_disk files_told.
+    let xs : List Session = c.self.inside.sessions.items in
+    let at : ℕ = c.in-Some.at in
+    let first = subst (λ (l : List Session). place_of c.args.sid.number l ≡ Some at) c.deref.ensures.value (sym c.in-Some.ensures) in
+    let one = found xs at c.args.sid.number first in
+    let s : Session = one.session in
+    let swapped = c.swap_phase-phase.ensures.swapped s one.is in
+    let start = told (g.F.Files.state c.args.files.now).shelf (g.F.Files.faults c.args.files.now) (g.L.Lines.traffic c.args.lines.now) (g.L.Lines.counts c.args.lines.now) in
+    inr (subst (λ (n : NodeState). LeaveLeaves g.F.Files.told g.T.Texts.read c.args.now c.args.sid n start (JointAt (g.D.Disk.state c.args.disk.now) (g.F.Files.state c.args.files.now)) (JointAt (g.D.Disk.state c.on_end-ending.new.disk) (g.F.Files.state c.on_end-ending.new.files)) c.args.beat.now) c.self.view_is (record {
+      at = at;
+      session = s;
+      open_at = first;
+      stands = one.is;
+      moments = subst (λ (p : Phase). (n : Node) → IsSo g.F.Files.told (setting_of c.self.inside.config) g.T.Texts.read c.args.sid.number n (spot c.self.inside.registry.entries (g.F.Files.state c.args.files.now).shelf p c.self.inside.holders (g.L.Lines.traffic c.args.lines.now))
+          → Moments (JointAt (g.D.Disk.state c.args.disk.now) (g.F.Files.state c.args.files.now)) (JointAt (g.D.Disk.state c.on_end-ending.new.disk) (g.F.Files.state c.on_end-ending.new.files)) c.args.beat.now (IsWithin c.args.sid.number (row_end n c.args.sid.number c.args.now) n)) swapped.0
+          (c.on_end-ending.ensures.moments told_disk files_told);
+    }))

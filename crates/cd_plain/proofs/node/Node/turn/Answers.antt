@@ -1,10 +1,12 @@
-use Rattle.std.proofs.Common.{◌≡◌, inl, ℕ, ◌<◌, ◌≤◌, List, length, Some, Ok, Err, refl, sym, ap, subst, ◌∙◌, arith}
+use Rattle.std.proofs.Common.{◌≡◌, inl, inr, ℕ, ◌<◌, ◌≤◌, List, length, Some, Ok, Err, refl, sym, ap, subst, ◌∙◌, arith}
 use Rattle.std.specs.Prelude.{slice_set}
 use Rattle.std.proofs.lemmas.Option.{slice_get_read}
+use Rattle.cd_deeds.specs.Joint.{JointAt}
 use Rattle.cd_deeds.specs.Stands.{spot}
 use Rattle.cd_deeds.specs.declared.fault.Fault.{Fault}
 use Rattle.cd_deeds.specs.declared.fault.Fault.TheVariants as fault
 use Rattle.cd_node.specs.declared.session.Session.{Session}
+use Rattle.cd_plain.specs.Crash.{NodeLeaves}
 use Rattle.cd_plain.specs.NodeState.{NodeState, HasSessions, IsReady}
 use Rattle.cd_plain.specs.Setting.{setting_of}
 use Rattle.cd_plain.specs.Turned.{place_of, told, HadTurn, FailedTurn}
@@ -12,7 +14,7 @@ use Rattle.cd_plain.specs.declared.handled.Handled.{Handled}
 use Rattle.cd_plain.proofs.Coming.{lost_later}
 use Rattle.cd_plain.proofs.Places.{found, rising_at}
 use Rattle.cd_plain.proofs.Taken.{turn_then}
-use Rattle.cd_plain.proofs.Turning.{swapped_back, had_turn, failed_turn, sessions_turned}
+use Rattle.cd_plain.proofs.Turning.{swapped_back, had_turn, failed_turn, node_leaves, sessions_turned}
 use Rattle.cd_plain.proofs.node.Node.turn.Goals as goal
 
 pub take_turn-ending-requires-clause-from : goal.take_turn-ending-requires-clause-from
@@ -142,3 +144,45 @@ returns-in-Err-clause-home g c = λ other.
       registry = λ told. e.registry told (λ h. let is : c.in-Err.fault ≡ fault.Disk = cc in not_disk is);
       order = e.order;
     }
+
+pub returns-in-Err-clause-crash : goal.returns-in-Err-clause-crash
+returns-in-Err-clause-crash g c = λ told_disk files_told.
+    let xs : List Session = c.self.inside.sessions.items in
+    let at : ℕ = c.in-Some.at in
+    let first = subst (λ (l : List Session). place_of c.args.sid.number l ≡ Some at) c.deref.ensures.value (sym c.in-Some.ensures) in
+    let one = found xs at c.args.sid.number first in
+    let s : Session = one.session in
+    let swapped = c.swap_phase-phase.ensures.swapped s one.is in
+    let second = swapped_back xs c.swap_phase-phase.new.sessions.items c.swap_phase-in-Err.new.sessions.items at s c.swap_phase-in-Err.result c.take_turn-ending.new.phase one.is swapped.1 c.swap_phase-in-Err.ensures.swapped in
+    let within : at < length c.self.inside.readers.items = omega (arith, one.within, c.self.invariant) in
+    let node : NodeState = record { registry = c.self.inside.registry; config = c.self.inside.config; sessions = xs; readings = c.self.inside.readers.items; holdings = c.self.inside.holders } in
+    let after : NodeState = record { registry = c.take_turn-ending.new.registry; config = c.self.inside.config; sessions = c.swap_phase-in-Err.new.sessions.items; readings = slice_set c.self.inside.readers.items at c.take_turn-ending.new.reader; holdings = c.take_turn-ending.new.holders } in
+    let start = told (g.F.Files.state c.args.files.now).shelf (g.F.Files.faults c.args.files.now) (g.L.Lines.traffic c.args.lines.now) (g.L.Lines.counts c.args.lines.now) in
+    let end = told (g.F.Files.state c.take_turn-ending.new.files).shelf (g.F.Files.faults c.take_turn-ending.new.files) (g.L.Lines.traffic c.take_turn-ending.new.lines) (g.L.Lines.counts c.take_turn-ending.new.lines) in
+    inr (subst (λ (n : NodeState). NodeLeaves g.F.Files.told g.L.Lines.told g.T.Texts.read c.args.now c.args.sid n start (JointAt (g.D.Disk.state c.args.disk.now) (g.F.Files.state c.args.files.now)) (JointAt (g.D.Disk.state c.take_turn-ending.new.disk) (g.F.Files.state c.take_turn-ending.new.files)) c.args.beat.now) c.self.view_is
+    (node_leaves g.F.Files.told g.L.Lines.told g.T.Texts.read c.args.now c.args.sid node after start end at s c.swap_phase-phase.result c.take_turn-ending.new.phase c.deref-2.result.now c.index_mut.result.now c.take_turn-ending.new.reader
+    first one.is one.number_is (slice_get_read c.self.inside.readers.items (length c.self.inside.readers.items) at c.index_mut.result.now refl within c.index_mut.ensures.value)
+    second refl swapped.0 (c.deref-2.ensures.value ∙ swapped.1)
+    (JointAt (g.D.Disk.state c.args.disk.now) (g.F.Files.state c.args.files.now)) (JointAt (g.D.Disk.state c.take_turn-ending.new.disk) (g.F.Files.state c.take_turn-ending.new.files)) c.args.beat.now
+    (c.take_turn-ending.ensures.crash told_disk files_told)))
+
+pub returns-in-Ok-clause-crash : goal.returns-in-Ok-clause-crash
+returns-in-Ok-clause-crash g c = λ told_disk files_told.
+    let xs : List Session = c.self.inside.sessions.items in
+    let at : ℕ = c.in-Some.at in
+    let first = subst (λ (l : List Session). place_of c.args.sid.number l ≡ Some at) c.deref.ensures.value (sym c.in-Some.ensures) in
+    let one = found xs at c.args.sid.number first in
+    let s : Session = one.session in
+    let swapped = c.swap_phase-phase.ensures.swapped s one.is in
+    let second = swapped_back xs c.swap_phase-phase.new.sessions.items c.swap_phase.new.sessions.items at s c.swap_phase.result c.take_turn-ending.new.phase one.is swapped.1 c.swap_phase.ensures.swapped in
+    let within : at < length c.self.inside.readers.items = omega (arith, one.within, c.self.invariant) in
+    let node : NodeState = record { registry = c.self.inside.registry; config = c.self.inside.config; sessions = xs; readings = c.self.inside.readers.items; holdings = c.self.inside.holders } in
+    let after : NodeState = record { registry = c.take_turn-ending.new.registry; config = c.self.inside.config; sessions = c.swap_phase.new.sessions.items; readings = slice_set c.self.inside.readers.items at c.take_turn-ending.new.reader; holdings = c.take_turn-ending.new.holders } in
+    let start = told (g.F.Files.state c.args.files.now).shelf (g.F.Files.faults c.args.files.now) (g.L.Lines.traffic c.args.lines.now) (g.L.Lines.counts c.args.lines.now) in
+    let end = told (g.F.Files.state c.take_turn-ending.new.files).shelf (g.F.Files.faults c.take_turn-ending.new.files) (g.L.Lines.traffic c.close_gone.new.lines) (g.L.Lines.counts c.close_gone.new.lines) in
+    inr (subst (λ (n : NodeState). NodeLeaves g.F.Files.told g.L.Lines.told g.T.Texts.read c.args.now c.args.sid n start (JointAt (g.D.Disk.state c.args.disk.now) (g.F.Files.state c.args.files.now)) (JointAt (g.D.Disk.state c.take_turn-ending.new.disk) (g.F.Files.state c.take_turn-ending.new.files)) c.args.beat.now) c.self.view_is
+    (node_leaves g.F.Files.told g.L.Lines.told g.T.Texts.read c.args.now c.args.sid node after start end at s c.swap_phase-phase.result c.take_turn-ending.new.phase c.deref-2.result.now c.index_mut.result.now c.take_turn-ending.new.reader
+    first one.is one.number_is (slice_get_read c.self.inside.readers.items (length c.self.inside.readers.items) at c.index_mut.result.now refl within c.index_mut.ensures.value)
+    second refl swapped.0 (c.deref-2.ensures.value ∙ swapped.1)
+    (JointAt (g.D.Disk.state c.args.disk.now) (g.F.Files.state c.args.files.now)) (JointAt (g.D.Disk.state c.take_turn-ending.new.disk) (g.F.Files.state c.take_turn-ending.new.files)) c.args.beat.now
+    (c.take_turn-ending.ensures.crash told_disk files_told)))
