@@ -1,19 +1,20 @@
-//! A node over devices in memory, none of whose calls fails.
+//! A node over devices in memory, of whose calls none fails but those of the files that are told to.
 ghost use Rattle.std.specs.Prelude.{◌≤◌};
 ghost use Rattle.cd_outside.specs.Disk.{last_of};
 ghost use Rattle.cd_memory.specs.MemoryDisk.{state_of};
 
 use cd_cli::{Status, run_node};
-use cd_memory::{FaultScript, MemoryClock, MemoryDisk, MemorySink, MemorySource};
+use cd_memory::{FaultScript, MemoryClock, MemoryDisk, MemoryFiles, MemorySink, MemorySource};
 use cd_outside::Beat;
 use cd_types::{Moment, NoMemory};
 use std::alloc::Global;
 
-/// A disk in memory, on which the node may run more than once.
+/// A disk and files in memory, on which the node may run more than once.
 #[derive(Drop)]
 pub struct Machine {
     alloc: Global,
     disk: MemoryDisk,
+    files: MemoryFiles,
     beat: Beat,
     ghost order: { last_of (state_of disk).calls ≤ beat },
 }
@@ -26,12 +27,14 @@ pub struct Ran {
 }
 
 impl Machine {
-    /// With a disk that has no bytes.
+    /// With a disk that has no bytes, and no files.
     pub fn new(alloc: Global) -> Result<Self, NoMemory> {
         let disk = MemoryDisk::new(alloc, FaultScript::new(Vec::new(alloc)))?;
+        let files = MemoryFiles::new(alloc, FaultScript::new(Vec::new(alloc)))?;
         Ok(Machine {
             alloc,
             disk,
+            files,
             beat: Beat::new(),
         })
     }
@@ -39,6 +42,16 @@ impl Machine {
     /// The bytes on the disk.
     pub fn bytes(&self) -> &[u8] {
         self.disk.bytes()
+    }
+
+    /// Puts a file with these bytes.
+    pub fn put(&mut self, name: &[u8], bytes: &[u8]) -> Result<(), NoMemory> {
+        self.files.put(name, bytes)
+    }
+
+    /// The k-th next call of the files fails.
+    pub fn fail(&mut self, k: u64) -> Result<(), NoMemory> {
+        self.files.fail(k)
     }
 
     /// Runs the node on these commands, at the moment 1,709,287,200.
@@ -55,6 +68,7 @@ impl Machine {
             alloc,
             &[],
             &mut self.disk,
+            &mut self.files,
             &mut clock,
             &mut input,
             &mut out,

@@ -1,7 +1,8 @@
 //! Says what a node answers, and no part of the node: its input is texts, each but the last with a line `%%` behind it, and its
 //! output has the answers to each and a line `%%`. The first line of a text is the home of a run over devices in memory, `BLANK`
-//! or `ALPHA`, and what follows that line is the input of the run. An answer is the output of the run, and a line with its exit
-//! status and the length of the journal that it leaves, in bytes.
+//! or `ALPHA`. Lines behind it may put files: `text NAME REST` one of this name that holds REST, and `fail K` has the K-th next call
+//! of the files fail. What follows is the input of the run. An answer is the output of the run, and a line with its exit status
+//! and the length of the journal that it leaves, in bytes.
 #![tactic(auto)]
 
 mod machine;
@@ -18,13 +19,44 @@ const BETWEEN: &str = "\n%%\n";
 /// Names the home ALPHA.
 const INIT: &[u8] = b"init name=ALPHA home=17;";
 
-// What a run on a home with this name, or without one, answers to these commands.
-fn answers(alloc: Global, is_named: bool, commands: &[u8]) -> Result<String, NoMemory> {
+// Puts the file of a line, or has a call fail. A line that asks for neither is left.
+fn prepared(machine: &mut Machine, line: &str) -> Result<bool, NoMemory> {
+    if let Some(file) = line.strip_prefix("text ") {
+        let (name, text) = file.split_once(" ").unwrap_or((file, ""));
+        machine.put(name.as_bytes(), text.as_bytes())?;
+        return Ok(true);
+    }
+    let Some(digits) = line.strip_prefix("fail ") else {
+        return Ok(false);
+    };
+    match digits.parse::<u64>() {
+        Ok(k) => machine.fail(k)?,
+        Err(_) => return Ok(false),
+    }
+    Ok(true)
+}
+
+// Does what the lines at the front ask for, and gives what follows them.
+fn input_of<'a>(machine: &mut Machine, text: &'a str) -> Result<&'a str, NoMemory> {
+    let mut rest = text;
+    for _ in 0..text.len() {
+        let (line, more) = rest.split_once("\n").unwrap_or((rest, ""));
+        if !prepared(machine, line)? {
+            break;
+        }
+        rest = more;
+    }
+    Ok(rest)
+}
+
+// What a run on a home with this name, or without one, answers to these lines and commands.
+fn answers(alloc: Global, is_named: bool, text: &str) -> Result<String, NoMemory> {
     let mut machine = Machine::new(alloc)?;
     if is_named {
         let _ = machine.run(INIT)?;
     }
-    let ran = machine.run(commands)?;
+    let input = input_of(&mut machine, text)?;
+    let ran = machine.run(input.as_bytes())?;
     let lines = String::from_utf8_lossy(alloc, ran.out.bytes())?;
     let code = ran.status.code();
     let length = machine.bytes().len();
@@ -32,11 +64,11 @@ fn answers(alloc: Global, is_named: bool, commands: &[u8]) -> Result<String, NoM
 }
 
 // The answers to a text.
-fn said(alloc: Global, text: &[u8]) -> Result<String, NoMemory> {
-    if let Some(commands) = text.strip_prefix(b"ALPHA\n".as_slice()) {
-        answers(alloc, true, commands)
-    } else if let Some(commands) = text.strip_prefix(b"BLANK\n".as_slice()) {
-        answers(alloc, false, commands)
+fn said(alloc: Global, text: &str) -> Result<String, NoMemory> {
+    if let Some(lines) = text.strip_prefix("ALPHA\n") {
+        answers(alloc, true, lines)
+    } else if let Some(lines) = text.strip_prefix("BLANK\n") {
+        answers(alloc, false, lines)
     } else {
         Ok(String::from_str(alloc, "NO HOME\n")?)
     }
@@ -48,7 +80,7 @@ fn main(rt: HostRuntime) -> Result<()> {
     for _ in 0..input.len() {
         let (text, more) = rest.split_once(BETWEEN).unwrap_or((rest, ""));
         if !text.is_empty() {
-            match said(rt.alloc(), text.as_bytes()) {
+            match said(rt.alloc(), text) {
                 Ok(said) => println!(rt; "{said}%%")?,
                 Err(_) => println!(rt; "NO MEMORY\n%%")?,
             }

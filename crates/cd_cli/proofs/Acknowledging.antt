@@ -14,8 +14,7 @@ use Rattle.cd_turn.specs.declared.status.Status.TheVariants.{Done, Usage, Refuse
 use Rattle.cd_ast.specs.declared.process.Process.{Process}
 use Rattle.cd_turn.specs.declared.order.Order.{Order}
 use Rattle.cd_turn.specs.declared.order.Order.TheVariants as order
-use Rattle.cd_turn.specs.Order.{told_by}
-use Rattle.cd_turn.specs.Turn.{Turn, answer, room_answer, partner_answer, submission, submission_with, added, after_turn, after_turns, replies}
+use Rattle.cd_turn.specs.Turn.{Turn, order_in, answer, room_answer, partner_answer, submission, submission_with, added, after_turn, after_turns, replies}
 use Rattle.cd_turn.specs.declared.reply.Reply.TheVariants as reply
 use Rattle.cd_turn.specs.declared.reply.Refusal.TheVariants.{Full}
 use Rattle.cd_cli.specs.Acknowledged.{tells, submits, KeepsNumber}
@@ -35,7 +34,7 @@ has_back n one two h = list_any-append (submits n) one two ∙ ap (λ (b : Bool)
 
 has_later : (n : ℕ) (entries : List Entry) (turns : List Turn) → list_any (submits n) entries ≡ true → list_any (submits n) (after_turns entries turns) ≡ true
 has_later n entries [] h = h
-has_later n entries (turn ∷ turns) h = has_later n (after_turn entries turn) turns (has_front n entries (option_to_list (added entries turn.now (told_by turn.event))) h)
+has_later n entries (turn ∷ turns) h = has_later n (after_turn entries turn) turns (has_front n entries (option_to_list (added entries turn.now (order_in turn))) h)
 
 room_told : (t : Bool) (n now : ℕ) (entries : List Entry) (snode : List ℕ) (p : Process) → tells n (cond t (reply.Submitted (submitted_in entries + 1)) (reply.Refused (Full 4096))) ≡ true
     → list_any (submits n) (option_to_list (cond t (Some (submission entries now snode p)) None)) ≡ true
@@ -51,6 +50,12 @@ told_added : (n now : ℕ) (entries : List Entry) (wanted : Order) → tells n (
 told_added n now entries (order.Wrong name at) h = absurd cc
 told_added n now entries order.NotBuilt h = absurd cc
 told_added n now entries order.Stop h = absurd cc
+told_added n now [] order.SubmitNotBuilt h = absurd cc
+told_added n now (e ∷ entries) order.SubmitNotBuilt h = absurd cc
+told_added n now [] (order.SubmitUnread why) h = absurd cc
+told_added n now (e ∷ entries) (order.SubmitUnread why) h = absurd cc
+told_added n now entries (order.View p) h = absurd cc
+told_added n now entries (order.ViewUnread why) h = absurd cc
 told_added n now [] (order.Init name home) h = absurd cc
 told_added n now (e ∷ entries) (order.Init name home) h = absurd cc
 told_added n now [] (order.Submit p) h = absurd cc
@@ -63,7 +68,7 @@ either false b h = inr h
 told_kept : (n : ℕ) (entries : List Entry) (turns : List Turn) → list_any (tells n) (replies entries turns) ≡ true → list_any (submits n) (after_turns entries turns) ≡ true
 told_kept n entries [] h = absurd cc
 told_kept n entries (turn ∷ turns) h =
-    let wanted = told_by turn.event in
+    let wanted = order_in turn in
     ⊎_elim
     (λ (now : tells n (answer entries wanted) ≡ true).
     has_later n (after_turn entries turn) turns (has_back n entries (option_to_list (added entries turn.now wanted)) (told_added n turn.now entries wanted now)))
@@ -88,8 +93,8 @@ leaves_number fresh n entries (Some e) image has left = ⊎_elim
     left
 
 -- and what a crash leaves has it
-module _ (fresh disk clock source sink : Type 0) (moment : ℕ) (entries : List Entry) (out input rest : List ℕ) (now : DiskState) (out_now : List ℕ) where
-  module _ (status : Status) (r : Ran fresh disk clock source sink moment entries out input rest now out_now status) (told : disk) (n : ℕ) (image : List ℕ) (left : IsImage now.doubt image) where
+module _ (fresh disk source sink : Type 0) (by : Turn → Type 0) (entries : List Entry) (out input rest : List ℕ) (now : DiskState) (out_now : List ℕ) where
+  module _ (status : Status) (r : Ran fresh disk source sink by entries out input rest now out_now status) (told : disk) (n : ℕ) (image : List ℕ) (left : IsImage now.doubt image) where
     turns_number : list_any (tells n) (replies entries r.turns) ≡ true → KeepsNumber n image
     turns_number number = leaves_number fresh n (after_turns entries r.turns) (added_by (after_turns entries r.turns) r.begun) image (told_kept n entries r.turns number) (r.keeps told image left)
 
@@ -98,7 +103,7 @@ module _ (fresh disk clock source sink : Type 0) (moment : ℕ) (entries : List 
         let all = r.turns ++ option_to_list r.begun in
         journal_has n (after_turns entries all) image (told_kept n entries all number) (kept_image (after_turns entries all) now image (r.written told is) left)
 
-  pub keeps_number : (status : Status) (r : Ran fresh disk clock source sink moment entries out input rest now out_now status) → disk → (n : ℕ) (image : List ℕ) → list_any (tells n) (replies entries (told_turns status r.turns r.begun)) ≡ true → IsImage now.doubt image → KeepsNumber n image
+  pub keeps_number : (status : Status) (r : Ran fresh disk source sink by entries out input rest now out_now status) → disk → (n : ℕ) (image : List ℕ) → list_any (tells n) (replies entries (told_turns status r.turns r.begun)) ≡ true → IsImage now.doubt image → KeepsNumber n image
   keeps_number Done r told n image number left = turns_number Done r told n image left number
   keeps_number Usage r told n image number left = turns_number Usage r told n image left number
   keeps_number Refused r told n image number left = turns_number Refused r told n image left number

@@ -60,19 +60,19 @@ upto_short ys tail short = ⊎_elim
     (first.0, ap (λ (l : List Event). upto_first ends_run (l ++ tail)) one.1 ∙ first.1 ∙ ap (λ (l : List Event). l ++ first.0) (sym one.1)))
     short
 
-module _ (fresh disk clock source sink : Type 0) (moment : ℕ) (entries : List Entry) (out input : List ℕ) where
+module _ (fresh disk source sink : Type 0) (by : Turn → Type 0) (entries : List Entry) (out input : List ℕ) where
   abbrev first : Standing
   first = standing entries out false
 
   abbrev Came : List ℕ → DiskState → List ℕ → Status → Type 0
-  Came rest now out_now status = Ran fresh disk clock source sink moment entries out input rest now out_now status
+  Came rest now out_now status = Ran fresh disk source sink by entries out input rest now out_now status
 
   abbrev Read : List ℕ → ℕ → Scan → Standing → Type 0
-  Read ahead count scan at = Reading disk clock source sink moment first input ahead count scan at
+  Read ahead count scan at = Reading disk source sink by first input ahead count scan at
 
   -- nothing was read yet
   pub read_none : (scan : Scan) → scan ≡ begin → (later : Read input 0 scan first) × (later.read ≡ [])
-  read_none scan is = (record { read = []; given = λ told. refl; length_is = refl; scan_is = is; turned = turned_none disk clock sink moment first; quiet = record { none = refl } }, refl)
+  read_none scan is = (record { read = []; given = λ told. refl; length_is = refl; scan_is = is; turned = turned_none disk sink by first; quiet = record { none = refl } }, refl)
 
   module _ (ahead : List ℕ) (count : ℕ) (scan : Scan) (at_entries : List Entry) (at_out : List ℕ) (was : Last) (r : Read ahead count scan (standing at_entries at_out (was_refused was))) where
     abbrev at : Standing
@@ -85,7 +85,7 @@ module _ (fresh disk clock source sink : Type 0) (moment : ℕ) (entries : List 
     pub exit_source : (rest : List ℕ) (now : DiskState) → count ≤ most_input → (source → ahead ≡ rest) → (disk → HasKept at_entries now) → Came rest now at_out SourceFault
     exit_source rest now small same kept =
         let within : length r.read ≤ most_input = let e = r.length_is in omega arith in
-        ran_source fresh disk clock source sink moment entries out input rest xs at now r.turned kept
+        ran_source fresh disk source sink by entries out input rest xs at now r.turned kept
         (λ told. (r.read, r.given told ∙ ap (λ (l : List ℕ). r.read ++ l) (same told), within, refl, r.quiet.none))
 
     -- all that comes to its end with the input
@@ -140,28 +140,28 @@ module _ (fresh disk clock source sink : Type 0) (moment : ℕ) (entries : List 
     module _ (rest : List ℕ) (was_disk : DiskState) (kept_was : disk → HasKept at_entries was_disk) where
       -- the input came to its end
       pub exit_end : count ≤ most_input → (source → ahead ≡ []) → (brought : List Event) → brought ≡ end_events scan → (later : List Entry) (now : DiskState) (out_now : List ℕ) (status : Status)
-          → Finishes fresh disk clock sink moment at was_disk brought (status_after was) later now out_now status → (disk → IfBetween status (HasKept later now)) → Came rest now out_now status
+          → Finishes fresh disk sink by at was_disk brought (status_after was) later now out_now status → (disk → IfBetween status (HasKept later now)) → Came rest now out_now status
       exit_end small none [] is later now out_now status fin kept =
           subst (λ (s : Status). Came rest now out_now s) (sym fin.0)
           (subst (λ (o : List ℕ). Came rest now o (status_after was)) (sym fin.2)
           (subst (λ (d : DiskState). Came rest d at_out (status_after was)) (sym fin.3)
-          (ran_ended fresh disk clock source sink moment entries out input rest xs at was_disk r.turned kept_was was refl
+          (ran_ended fresh disk source sink by entries out input rest xs at was_disk r.turned kept_was was refl
           (λ told. (sym (append-nil xs) ∙ ap (λ (l : List Event). xs ++ l) is ∙ sym (all_at_end small none told), inr (input_small small none told))))))
       exit_end small none (e ∷ es) is later now out_now status fin kept =
-          closes_ran fresh disk clock source sink moment entries out input rest xs at now out_now later r.turned (e ∷ es) status fin
+          closes_ran fresh disk source sink by entries out input rest xs at now out_now later r.turned (e ∷ es) status fin
           (λ told. all_at_end small none told ∙ ap (λ (l : List Event). xs ++ l) (sym is)) (λ told. inr (input_small small none told)) kept
 
       -- the input goes on behind what is read at most
       pub exit_limit : count ≡ most_input → (source → 0 < length ahead) → (brought : List Event) → brought ≡ limit_events scan → (later : List Entry) (now : DiskState) (out_now : List ℕ) (status : Status)
-          → Finishes fresh disk clock sink moment at was_disk brought InputLimit later now out_now status → (disk → IfBetween status (HasKept later now)) → Came rest now out_now status
+          → Finishes fresh disk sink by at was_disk brought InputLimit later now out_now status → (disk → IfBetween status (HasKept later now)) → Came rest now out_now status
       exit_limit full more [] is later now out_now status fin kept =
           subst (λ (s : Status). Came rest now out_now s) (sym fin.0)
           (subst (λ (o : List ℕ). Came rest now o InputLimit) (sym fin.2)
           (subst (λ (d : DiskState). Came rest d at_out InputLimit) (sym fin.3)
-          (ran_limit fresh disk clock source sink moment entries out input rest xs at was_disk r.turned kept_was
+          (ran_limit fresh disk source sink by entries out input rest xs at was_disk r.turned kept_was
           (λ told. (sym (append-nil xs) ∙ ap (λ (l : List Event). xs ++ l) is ∙ sym (all_at_limit full more told), r.quiet.none, input_long full more told)))))
       exit_limit full more (e ∷ es) is later now out_now status fin kept =
-          closes_ran fresh disk clock source sink moment entries out input rest xs at now out_now later r.turned (e ∷ es) status fin
+          closes_ran fresh disk source sink by entries out input rest xs at now out_now later r.turned (e ∷ es) status fin
           (λ told. all_at_limit full more told ∙ ap (λ (l : List Event). xs ++ l) (sym is))
           (λ told. inl (any_push (e ∷ es) (limit_ends (is_full scan) (e ∷ es) is (λ (h : (e ∷ es) ≡ []). some_not e es h)))) kept
 
@@ -180,7 +180,7 @@ module _ (fresh disk clock source sink : Type 0) (moment : ℕ) (entries : List 
       length_next = length-append r.read (b ∷ []) ∙ ap (λ (n : ℕ). n + 1) r.length_is
 
       -- and the run goes on
-      pub read_more : (scan_now : Scan) (later : List Entry) (out_now : List ℕ) (last : Last) → scan_now ≡ (scan_after scan b).0 → Went disk clock sink moment at ys later out_now (flow.Goes last)
+      pub read_more : (scan_now : Scan) (later : List Entry) (out_now : List ℕ) (last : Last) → scan_now ≡ (scan_after scan b).0 → Went disk sink by at ys later out_now (flow.Goes last)
           → (more : Read ahead_now (count + 1) scan_now (standing later out_now (was_refused last))) × (events begin more.read ≡ xs ++ ys)
       read_more scan_now later out_now last scan_is went = (
         record {
@@ -188,8 +188,8 @@ module _ (fresh disk clock source sink : Type 0) (moment : ℕ) (entries : List 
           given = given_next;
           length_is = length_next;
           scan_is = scan_is ∙ ap (λ (s : Scan). (scan_after s b).0) r.scan_is ∙ sym (scanned_next begin r.read b);
-          turned = subst (λ (es : List Event). HaveTurned disk clock sink moment first es (standing later out_now (was_refused last))) (sym events_are)
-              (turned_then disk clock sink moment first at (standing later out_now (was_refused last)) xs ys r.turned went.turned);
+          turned = subst (λ (es : List Event). HaveTurned disk sink by first es (standing later out_now (was_refused last))) (sym events_are)
+              (turned_then disk sink by first at (standing later out_now (was_refused last)) xs ys r.turned went.turned);
           quiet = subst (PassNone ends_run) (sym events_are) (none_then ends_run xs ys r.quiet (record { none = sym went.ends }));
         },
         events_are,
@@ -211,11 +211,11 @@ module _ (fresh disk clock source sink : Type 0) (moment : ℕ) (entries : List 
           )
 
       -- or it was ended by the turn
-      pub exit_ends : (rest : List ℕ) (now : DiskState) (later : List Entry) (out_now : List ℕ) (last : Last) → count < most_input → Went disk clock sink moment at ys later out_now (flow.Ends last)
+      pub exit_ends : (rest : List ℕ) (now : DiskState) (later : List Entry) (out_now : List ℕ) (last : Last) → count < most_input → Went disk sink by at ys later out_now (flow.Ends last)
           → (disk → HasKept later now) → Came rest now out_now (status_after last)
       exit_ends rest now later out_now last small went kept =
-          ran_ended fresh disk clock source sink moment entries out input rest (xs ++ ys) (standing later out_now (was_refused last)) now
-          (turned_then disk clock sink moment first at (standing later out_now (was_refused last)) xs ys r.turned went.turned) kept last refl
+          ran_ended fresh disk source sink by entries out input rest (xs ++ ys) (standing later out_now (was_refused last)) now
+          (turned_then disk sink by first at (standing later out_now (was_refused last)) xs ys r.turned went.turned) kept last refl
           (λ told. let all = all_next small told in (
             sym (ap (upto_first ends_run) all.1 ∙ upto_then ends_run xs (ys ++ all.0) r.quiet
                 ∙ ap (λ (l : List Event). xs ++ l) (upto_any ys all.0 (sym went.ends) ∙ went.once)),
@@ -223,7 +223,7 @@ module _ (fresh disk clock source sink : Type 0) (moment : ℕ) (entries : List 
           ))
 
       -- or within it
-      pub exit_halted : (rest : List ℕ) (now : DiskState) (out_now : List ℕ) (status : Status) → count < most_input → Halted fresh disk clock sink moment at ys now out_now status → Came rest now out_now status
+      pub exit_halted : (rest : List ℕ) (now : DiskState) (out_now : List ℕ) (status : Status) → count < most_input → Halted fresh disk sink by at ys now out_now status → Came rest now out_now status
       exit_halted rest now out_now status small h =
-          ran_halted fresh disk clock source sink moment entries out input rest xs ys at now out_now status r.turned h
+          ran_halted fresh disk source sink by entries out input rest xs ys at now out_now status r.turned h
           (λ told. let all = all_next small told in run_halts (all_events most_input input) xs ys all.0 h.done h.more h.begun all.1 r.quiet h.brought_is (record { none = h.quiet }))

@@ -12,9 +12,8 @@ use Rattle.cd_input.specs.Input.{Event, upto_first}
 use Rattle.cd_turn.specs.Ends.{MayLeave, HasReason, TookAtEnd}
 use Rattle.cd_turn.specs.Home.{IsJournal, HasKept}
 use Rattle.cd_turn.specs.declared.order.Order.{Order}
-use Rattle.cd_turn.specs.Order.{told_by}
 use Rattle.cd_turn.specs.Reply.{reply_text}
-use Rattle.cd_turn.specs.Turn.{Turn, answer, added, after_turns}
+use Rattle.cd_turn.specs.Turn.{Turn, order_in, answer, added, after_turns}
 use Rattle.cd_turn.specs.declared.status.Status.{Status}
 use Rattle.cd_turn.specs.declared.status.Status.TheVariants.{Done, Usage, Refused, Unfit, SourceFault, DiskFault, SinkFault, InputLimit, JournalFull, NoMemory}
 use Rattle.cd_cli.specs.declared.flow.Flow.{Flow}
@@ -47,7 +46,7 @@ keeps_fresh fresh fresh_then entries (Some e) image freshly left = ⊎_elim
     (λ (is : IsJournal (entries ++ e ∷ []) image). inr (inl is)) (λ (none : fresh_then × (entries ≡ []) × (length image ≤ 9)). inr (inr (freshly none.0, none.1, none.2))) more)
     left
 
-cause_of : (told disk sink : Type 0) (entries : List Entry) (turn : Turn) (refused : Bool) (status : Status) → HasReason told disk sink entries (added entries turn.now (told_by turn.event)) status → HasCause told entries (Some turn) refused status
+cause_of : (told disk sink : Type 0) (entries : List Entry) (turn : Turn) (refused : Bool) (status : Status) → HasReason told disk sink entries (added entries turn.now (order_in turn)) status → HasCause told entries (Some turn) refused status
 cause_of told disk sink entries turn refused Done why = absurd why
 cause_of told disk sink entries turn refused Usage why = why
 cause_of told disk sink entries turn refused Refused why = absurd why
@@ -85,38 +84,37 @@ between_cut P InputLimit h = absurd h
 between_cut P NoMemory h = tt
 
 -- the run was ended within the turn of what came to its end
-pub halted_one : (fresh told disk clock sink rose : Type 0) (moment : ℕ) (entries : List Entry) (out out_now : List ℕ) (was : Bool) (now : ℕ) (event : Event) (wanted : Order) (disk_now : DiskState) (status : Status)
-    → wanted ≡ told_by event → HasReason told disk rose entries (added entries now wanted) status → (sink → TookAtEnd status (reply_text (answer entries wanted)) out out_now)
-    → (clock → now ≡ moment) → (told → status ≡ SinkFault → HasKept (entries ++ option_to_list (added entries now wanted)) disk_now) → (told → (image : List ℕ) → IsImage disk_now.doubt image → MayLeave fresh entries (added entries now wanted) image)
-    → Halted fresh told clock sink moment (standing entries out was) (event ∷ []) disk_now out_now status
-halted_one fresh told disk clock sink rose moment entries out out_now was now event wanted disk_now status e why took at written keeps =
-    let turn : Turn = record { now = now; event = event } in
+pub halted_one : (fresh told disk sink rose : Type 0) (by : Turn → Type 0) (entries : List Entry) (out out_now : List ℕ) (was : Bool) (turn : Turn) (wanted : Order) (disk_now : DiskState) (status : Status)
+    → wanted ≡ order_in turn → HasReason told disk rose entries (added entries turn.now wanted) status → (sink → TookAtEnd status (reply_text (answer entries wanted)) out out_now)
+    → by turn → (told → status ≡ SinkFault → HasKept (entries ++ option_to_list (added entries turn.now wanted)) disk_now) → (told → (image : List ℕ) → IsImage disk_now.doubt image → MayLeave fresh entries (added entries turn.now wanted) image)
+    → Halted fresh told sink by (standing entries out was) (turn.event ∷ []) disk_now out_now status
+halted_one fresh told disk sink rose by entries out out_now was turn wanted disk_now status e why took at written keeps =
     record {
       done = [];
       middle = standing entries out was;
-      turned = turned_none told clock sink moment (standing entries out was);
+      turned = turned_none told sink by (standing entries out was);
       quiet = refl;
       begun = Some turn;
-      moment_is = λ t. All-cons (λ (turn : Turn). turn.now ≡ moment) turn [] (at t) (All-nil (λ (turn : Turn). turn.now ≡ moment));
+      told_is = All-cons by turn [] at (All-nil by);
       more = [];
       brought_is = refl;
-      cause = cause_of told disk rose entries turn was status (subst (λ (c : Order). HasReason told disk rose entries (added entries now c) status) e why);
+      cause = cause_of told disk rose entries turn was status (subst (λ (c : Order). HasReason told disk rose entries (added entries turn.now c) status) e why);
       took = λ t. subst (λ (c : Order). TookAtEnd status (reply_text (answer entries c)) out out_now) e (took t);
-      within = within_of told disk rose entries (added entries now wanted) status why;
-      written = λ t is. subst (λ (c : Order). HasKept (entries ++ option_to_list (added entries now c)) disk_now) e (written t is);
-      keeps = λ t image left. subst (λ (c : Order). MayLeave fresh entries (added entries now c) image) e (keeps t image left);
+      within = within_of told disk rose entries (added entries turn.now wanted) status why;
+      written = λ t is. subst (λ (c : Order). HasKept (entries ++ option_to_list (added entries turn.now c)) disk_now) e (written t is);
+      keeps = λ t image left. subst (λ (c : Order). MayLeave fresh entries (added entries turn.now c) image) e (keeps t image left);
     }
 
 -- memory ran out between two turns
-pub halted_none : (fresh told clock sink : Type 0) (moment : ℕ) (entries : List Entry) (out : List ℕ) (was : Bool) (brought : List Event) (now : DiskState) → (told → HasKept entries now)
-    → Halted fresh told clock sink moment (standing entries out was) brought now out NoMemory
-halted_none fresh told clock sink moment entries out was brought now kept = record {
+pub halted_none : (fresh told sink : Type 0) (by : Turn → Type 0) (entries : List Entry) (out : List ℕ) (was : Bool) (brought : List Event) (now : DiskState) → (told → HasKept entries now)
+    → Halted fresh told sink by (standing entries out was) brought now out NoMemory
+halted_none fresh told sink by entries out was brought now kept = record {
   done = [];
   middle = standing entries out was;
-  turned = turned_none told clock sink moment (standing entries out was);
+  turned = turned_none told sink by (standing entries out was);
   quiet = refl;
   begun = None;
-  moment_is = λ t. All-nil (λ (turn : Turn). turn.now ≡ moment);
+  told_is = All-nil by;
   more = brought;
   brought_is = refl;
   cause = tt;
@@ -126,15 +124,15 @@ halted_none fresh told clock sink moment entries out was brought now kept = reco
   keeps = λ t image left. keeps_kept fresh entries None now (kept t) image left;
 }
 
-pub halted_since : (fresh fresh_then disk clock sink : Type 0) (moment first : ℕ) (before : Standing) (brought : List Event) (now : DiskState) (out : List ℕ) (status : Status) → (disk → fresh_then → fresh) → (clock → moment ≡ first)
-    → Halted fresh_then disk clock sink moment before brought now out status → Halted fresh disk clock sink first before brought now out status
-halted_since fresh fresh_then disk clock sink moment first before brought now out status freshly same h = record {
+pub halted_since : (fresh fresh_then disk sink : Type 0) (by first : Turn → Type 0) (before : Standing) (brought : List Event) (now : DiskState) (out : List ℕ) (status : Status) → (disk → fresh_then → fresh) → ((turn : Turn) → by turn → first turn)
+    → Halted fresh_then disk sink by before brought now out status → Halted fresh disk sink first before brought now out status
+halted_since fresh fresh_then disk sink by first before brought now out status freshly same h = record {
   done = h.done;
   middle = h.middle;
-  turned = turned_since disk clock sink moment first before h.middle h.done same h.turned;
+  turned = turned_since disk sink by first before h.middle h.done same h.turned;
   quiet = h.quiet;
   begun = h.begun;
-  moment_is = λ told. All-weaker (λ (turn : Turn). turn.now ≡ moment) (λ (turn : Turn). turn.now ≡ first) (λ turn e. e ∙ same told) (option_to_list h.begun) (h.moment_is told);
+  told_is = All-weaker by first same (option_to_list h.begun) h.told_is;
   more = h.more;
   brought_is = h.brought_is;
   cause = h.cause;
@@ -145,29 +143,29 @@ halted_since fresh fresh_then disk clock sink moment first before brought now ou
 }
 
 -- nothing came to its end
-pub went_none : (disk clock sink : Type 0) (moment : ℕ) (entries : List Entry) (out : List ℕ) (was : Last) (brought : List Event) → brought ≡ [] → Went disk clock sink moment (standing entries out (was_refused was)) brought entries out (flow.Goes was)
-went_none disk clock sink moment entries out was brought none =
-    subst (λ (es : List Event). Went disk clock sink moment (standing entries out (was_refused was)) es entries out (flow.Goes was)) (sym none)
-    (record { ends = refl; once = refl; turned = turned_none disk clock sink moment (standing entries out (was_refused was)) })
+pub went_none : (disk sink : Type 0) (by : Turn → Type 0) (entries : List Entry) (out : List ℕ) (was : Last) (brought : List Event) → brought ≡ [] → Went disk sink by (standing entries out (was_refused was)) brought entries out (flow.Goes was)
+went_none disk sink by entries out was brought none =
+    subst (λ (es : List Event). Went disk sink by (standing entries out (was_refused was)) es entries out (flow.Goes was)) (sym none)
+    (record { ends = refl; once = refl; turned = turned_none disk sink by (standing entries out (was_refused was)) })
 
 -- a last turn was made
-pub closes_after : (fresh disk clock sink : Type 0) (moment : ℕ) (before : Standing) (brought : List Event) (entries : List Entry) (now : DiskState) (out : List ℕ) (was : Last)
-    → HaveTurned disk clock sink moment before brought (standing entries out (was_refused was)) → Closes fresh disk clock sink moment before brought entries now out (status_after was)
-closes_after fresh disk clock sink moment before brought entries now out last.Done turned = turned
-closes_after fresh disk clock sink moment before brought entries now out last.Refused turned = turned
+pub closes_after : (fresh disk sink : Type 0) (by : Turn → Type 0) (before : Standing) (brought : List Event) (entries : List Entry) (now : DiskState) (out : List ℕ) (was : Last)
+    → HaveTurned disk sink by before brought (standing entries out (was_refused was)) → Closes fresh disk sink by before brought entries now out (status_after was)
+closes_after fresh disk sink by before brought entries now out last.Done turned = turned
+closes_after fresh disk sink by before brought entries now out last.Refused turned = turned
 
-pub closes_halted : (fresh disk clock sink : Type 0) (moment : ℕ) (before : Standing) (brought : List Event) (entries : List Entry) (now : DiskState) (out : List ℕ) (status : Status)
-    → Halted fresh disk clock sink moment before brought now out status → Closes fresh disk clock sink moment before brought entries now out status
-closes_halted fresh disk clock sink moment before brought entries now out Done h = absurd h.within
-closes_halted fresh disk clock sink moment before brought entries now out Usage h = h
-closes_halted fresh disk clock sink moment before brought entries now out Refused h = absurd h.within
-closes_halted fresh disk clock sink moment before brought entries now out (Unfit at) h = h
-closes_halted fresh disk clock sink moment before brought entries now out DiskFault h = h
-closes_halted fresh disk clock sink moment before brought entries now out (JournalFull len) h = h
-closes_halted fresh disk clock sink moment before brought entries now out SourceFault h = h
-closes_halted fresh disk clock sink moment before brought entries now out SinkFault h = h
-closes_halted fresh disk clock sink moment before brought entries now out InputLimit h = h
-closes_halted fresh disk clock sink moment before brought entries now out NoMemory h = h
+pub closes_halted : (fresh disk sink : Type 0) (by : Turn → Type 0) (before : Standing) (brought : List Event) (entries : List Entry) (now : DiskState) (out : List ℕ) (status : Status)
+    → Halted fresh disk sink by before brought now out status → Closes fresh disk sink by before brought entries now out status
+closes_halted fresh disk sink by before brought entries now out Done h = absurd h.within
+closes_halted fresh disk sink by before brought entries now out Usage h = h
+closes_halted fresh disk sink by before brought entries now out Refused h = absurd h.within
+closes_halted fresh disk sink by before brought entries now out (Unfit at) h = h
+closes_halted fresh disk sink by before brought entries now out DiskFault h = h
+closes_halted fresh disk sink by before brought entries now out (JournalFull len) h = h
+closes_halted fresh disk sink by before brought entries now out SourceFault h = h
+closes_halted fresh disk sink by before brought entries now out SinkFault h = h
+closes_halted fresh disk sink by before brought entries now out InputLimit h = h
+closes_halted fresh disk sink by before brought entries now out NoMemory h = h
 
 -- one event is done in any case
 pub once_single : (e : Event) → upto_first ends_run (e ∷ []) ≡ e ∷ []
@@ -202,39 +200,39 @@ between_both P Q R SinkFault step a b = tt
 between_both P Q R InputLimit step a b = step a b
 between_both P Q R NoMemory step a b = tt
 
-pub closes_since : (fresh fresh_then disk clock sink : Type 0) (moment first : ℕ) (before : Standing) (brought : List Event) (entries : List Entry) (now : DiskState) (out : List ℕ) (status : Status) → (disk → fresh_then → fresh) → (clock → moment ≡ first)
-    → Closes fresh_then disk clock sink moment before brought entries now out status → Closes fresh disk clock sink first before brought entries now out status
-closes_since fresh fresh_then disk clock sink moment first before brought entries now out Done freshly same h = turned_since disk clock sink moment first before (standing entries out false) brought same h
-closes_since fresh fresh_then disk clock sink moment first before brought entries now out Refused freshly same h = turned_since disk clock sink moment first before (standing entries out true) brought same h
-closes_since fresh fresh_then disk clock sink moment first before brought entries now out Usage freshly same h = halted_since fresh fresh_then disk clock sink moment first before brought now out Usage freshly same h
-closes_since fresh fresh_then disk clock sink moment first before brought entries now out (Unfit at) freshly same h = halted_since fresh fresh_then disk clock sink moment first before brought now out (Unfit at) freshly same h
-closes_since fresh fresh_then disk clock sink moment first before brought entries now out DiskFault freshly same h = halted_since fresh fresh_then disk clock sink moment first before brought now out DiskFault freshly same h
-closes_since fresh fresh_then disk clock sink moment first before brought entries now out (JournalFull len) freshly same h = halted_since fresh fresh_then disk clock sink moment first before brought now out (JournalFull len) freshly same h
-closes_since fresh fresh_then disk clock sink moment first before brought entries now out SourceFault freshly same h = halted_since fresh fresh_then disk clock sink moment first before brought now out SourceFault freshly same h
-closes_since fresh fresh_then disk clock sink moment first before brought entries now out SinkFault freshly same h = halted_since fresh fresh_then disk clock sink moment first before brought now out SinkFault freshly same h
-closes_since fresh fresh_then disk clock sink moment first before brought entries now out InputLimit freshly same h = halted_since fresh fresh_then disk clock sink moment first before brought now out InputLimit freshly same h
-closes_since fresh fresh_then disk clock sink moment first before brought entries now out NoMemory freshly same h = halted_since fresh fresh_then disk clock sink moment first before brought now out NoMemory freshly same h
+pub closes_since : (fresh fresh_then disk sink : Type 0) (by first : Turn → Type 0) (before : Standing) (brought : List Event) (entries : List Entry) (now : DiskState) (out : List ℕ) (status : Status) → (disk → fresh_then → fresh) → ((turn : Turn) → by turn → first turn)
+    → Closes fresh_then disk sink by before brought entries now out status → Closes fresh disk sink first before brought entries now out status
+closes_since fresh fresh_then disk sink by first before brought entries now out Done freshly same h = turned_since disk sink by first before (standing entries out false) brought same h
+closes_since fresh fresh_then disk sink by first before brought entries now out Refused freshly same h = turned_since disk sink by first before (standing entries out true) brought same h
+closes_since fresh fresh_then disk sink by first before brought entries now out Usage freshly same h = halted_since fresh fresh_then disk sink by first before brought now out Usage freshly same h
+closes_since fresh fresh_then disk sink by first before brought entries now out (Unfit at) freshly same h = halted_since fresh fresh_then disk sink by first before brought now out (Unfit at) freshly same h
+closes_since fresh fresh_then disk sink by first before brought entries now out DiskFault freshly same h = halted_since fresh fresh_then disk sink by first before brought now out DiskFault freshly same h
+closes_since fresh fresh_then disk sink by first before brought entries now out (JournalFull len) freshly same h = halted_since fresh fresh_then disk sink by first before brought now out (JournalFull len) freshly same h
+closes_since fresh fresh_then disk sink by first before brought entries now out SourceFault freshly same h = halted_since fresh fresh_then disk sink by first before brought now out SourceFault freshly same h
+closes_since fresh fresh_then disk sink by first before brought entries now out SinkFault freshly same h = halted_since fresh fresh_then disk sink by first before brought now out SinkFault freshly same h
+closes_since fresh fresh_then disk sink by first before brought entries now out InputLimit freshly same h = halted_since fresh fresh_then disk sink by first before brought now out InputLimit freshly same h
+closes_since fresh fresh_then disk sink by first before brought entries now out NoMemory freshly same h = halted_since fresh fresh_then disk sink by first before brought now out NoMemory freshly same h
 
-pub finishes_since : (fresh fresh_then disk clock sink : Type 0) (moment first : ℕ) (before : Standing) (was : DiskState) (brought : List Event) (if_none : Status) (entries : List Entry) (now : DiskState) (out : List ℕ) (status : Status) → (disk → fresh_then → fresh) → (clock → moment ≡ first)
-    → Finishes fresh_then disk clock sink moment before was brought if_none entries now out status → Finishes fresh disk clock sink first before was brought if_none entries now out status
-finishes_since fresh fresh_then disk clock sink moment first before was [] if_none entries now out status freshly same h = h
-finishes_since fresh fresh_then disk clock sink moment first before was (e ∷ es) if_none entries now out status freshly same h = closes_since fresh fresh_then disk clock sink moment first before (e ∷ es) entries now out status freshly same h
+pub finishes_since : (fresh fresh_then disk sink : Type 0) (by first : Turn → Type 0) (before : Standing) (was : DiskState) (brought : List Event) (if_none : Status) (entries : List Entry) (now : DiskState) (out : List ℕ) (status : Status) → (disk → fresh_then → fresh) → ((turn : Turn) → by turn → first turn)
+    → Finishes fresh_then disk sink by before was brought if_none entries now out status → Finishes fresh disk sink first before was brought if_none entries now out status
+finishes_since fresh fresh_then disk sink by first before was [] if_none entries now out status freshly same h = h
+finishes_since fresh fresh_then disk sink by first before was (e ∷ es) if_none entries now out status freshly same h = closes_since fresh fresh_then disk sink by first before (e ∷ es) entries now out status freshly same h
 
-pub went_since : (disk clock sink : Type 0) (moment first : ℕ) (before : Standing) (brought : List Event) (entries : List Entry) (out : List ℕ) (flow : Flow) → (clock → moment ≡ first)
-    → Went disk clock sink moment before brought entries out flow → Went disk clock sink first before brought entries out flow
-went_since disk clock sink moment first before brought entries out flow same h = record {
+pub went_since : (disk sink : Type 0) (by first : Turn → Type 0) (before : Standing) (brought : List Event) (entries : List Entry) (out : List ℕ) (flow : Flow) → ((turn : Turn) → by turn → first turn)
+    → Went disk sink by before brought entries out flow → Went disk sink first before brought entries out flow
+went_since disk sink by first before brought entries out flow same h = record {
   ends = h.ends;
   once = h.once;
-  turned = turned_since disk clock sink moment first before (standing entries out (was_refused (last_in flow))) brought same h.turned;
+  turned = turned_since disk sink by first before (standing entries out (was_refused (last_in flow))) brought same h.turned;
 }
 
 -- that the journal had no bytes is said of the run's begin
-pub ran_fresh : (fresh fresh_then disk clock source sink : Type 0) (moment : ℕ) (entries : List Entry) (out input rest : List ℕ) (now : DiskState) (out_now : List ℕ) (status : Status) → (disk → fresh_then → fresh)
-    → Ran fresh_then disk clock source sink moment entries out input rest now out_now status → Ran fresh disk clock source sink moment entries out input rest now out_now status
-ran_fresh fresh fresh_then disk clock source sink moment entries out input rest now out_now status freshly r = record {
+pub ran_fresh : (fresh fresh_then disk source sink : Type 0) (by : Turn → Type 0) (entries : List Entry) (out input rest : List ℕ) (now : DiskState) (out_now : List ℕ) (status : Status) → (disk → fresh_then → fresh)
+    → Ran fresh_then disk source sink by entries out input rest now out_now status → Ran fresh disk source sink by entries out input rest now out_now status
+ran_fresh fresh fresh_then disk source sink by entries out input rest now out_now status freshly r = record {
   turns = r.turns;
   begun = r.begun;
-  moments = r.moments;
+  told = r.told;
   events = r.events;
   fits = r.fits;
   cause = r.cause;

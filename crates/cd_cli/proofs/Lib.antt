@@ -1,4 +1,5 @@
 pub mod Going
+pub mod Since
 pub mod Leaving
 pub mod Turning
 pub mod Halting

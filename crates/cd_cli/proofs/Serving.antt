@@ -26,12 +26,12 @@ abbrev event_in : Turn → Event
 event_in turn = turn.event
 
 -- What was read so far: these bytes, and what came to its end in them was done.
-pub record Reading (disk clock source sink : Type 0) (moment : ℕ) (first : Standing) (input ahead : List ℕ) (count : ℕ) (scan : Scan) (at : Standing) : Type 0 where
+pub record Reading (disk source sink : Type 0) (by : Turn → Type 0) (first : Standing) (input ahead : List ℕ) (count : ℕ) (scan : Scan) (at : Standing) : Type 0 where
   pub read : List ℕ
   pub given : source → input ≡ read ++ ahead
   pub length_is : length read ≡ count
   pub scan_is : scan ≡ scanned begin read
-  pub turned : HaveTurned disk clock sink moment first (events begin read) at
+  pub turned : HaveTurned disk sink by first (events begin read) at
   pub quiet : PassNone ends_run (events begin read)
 
 did_cut : (input rest : List ℕ) (done begun : List Event) (status : Status) → IfBetween status ⊥ → (more : List Event) × (run_events input ≡ done ++ (begun ++ more)) → DidOf input rest done begun status
@@ -89,16 +89,16 @@ run_halts all xs ys tail done more begun is none split none_done =
           ∙ sym (append_assoc xs done (b ++ last.0)),
     )
 
-module _ (fresh disk clock source sink : Type 0) (moment : ℕ) (entries : List Entry) (out input : List ℕ) where
+module _ (fresh disk source sink : Type 0) (by : Turn → Type 0) (entries : List Entry) (out input : List ℕ) where
   -- a run that was ended between two turns
-  pub ran_turned : (rest : List ℕ) (done : List Event) (after : Standing) (now : DiskState) (out_now : List ℕ) (status : Status) → HaveTurned disk clock sink moment (standing entries out false) done after
+  pub ran_turned : (rest : List ℕ) (done : List Event) (after : Standing) (now : DiskState) (out_now : List ℕ) (status : Status) → HaveTurned disk sink by (standing entries out false) done after
       → (source → DidOf input rest done [] status) → HasCause disk after.entries None after.refused status → (sink → TookAtEnd status [] after.out out_now)
       → (status ≡ SinkFault → ⊥) → (disk → HasKept after.entries now)
-      → Ran fresh disk clock source sink moment entries out input rest now out_now status
+      → Ran fresh disk source sink by entries out input rest now out_now status
   ran_turned rest done after now out_now status t did cause took never kept = record {
     turns = t.turns;
     begun = None;
-    moments = λ told. All-append (λ (turn : Turn). turn.now ≡ moment) t.turns [] (t.moments_are told) (All-nil (λ (turn : Turn). turn.now ≡ moment));
+    told = All-append by t.turns [] t.told_are (All-nil by);
     events = λ told. subst (λ (es : List Event). DidOf input rest es [] status) (sym t.events_are) (did told);
     fits = t.fits;
     cause = subst (λ (es : List Entry). HasCause disk es None (refused_after false (replies entries t.turns)) status) t.entries_are (subst (λ (r : Bool). HasCause disk after.entries None r status) t.refused_is cause);
@@ -109,17 +109,17 @@ module _ (fresh disk clock source sink : Type 0) (moment : ℕ) (entries : List 
   }
 
   -- a run that was ended within a stretch
-  pub ran_halted : (rest : List ℕ) (xs ys : List Event) (at : Standing) (now : DiskState) (out_now : List ℕ) (status : Status) → HaveTurned disk clock sink moment (standing entries out false) xs at
-      → (h : Halted fresh disk clock sink moment at ys now out_now status)
+  pub ran_halted : (rest : List ℕ) (xs ys : List Event) (at : Standing) (now : DiskState) (out_now : List ℕ) (status : Status) → HaveTurned disk sink by (standing entries out false) xs at
+      → (h : Halted fresh disk sink by at ys now out_now status)
       → (source → (more : List Event) × (run_events input ≡ (xs ++ h.done) ++ (map (λ turn. turn.event) (option_to_list h.begun) ++ more)))
-      → Ran fresh disk clock source sink moment entries out input rest now out_now status
+      → Ran fresh disk source sink by entries out input rest now out_now status
   ran_halted rest xs ys at now out_now status one h did =
-      let t = turned_then disk clock sink moment (standing entries out false) at h.middle xs h.done one h.turned in
+      let t = turned_then disk sink by (standing entries out false) at h.middle xs h.done one h.turned in
       let b : List Event = map event_in (option_to_list h.begun) in
       record {
         turns = t.turns;
         begun = h.begun;
-        moments = λ told. All-append (λ (turn : Turn). turn.now ≡ moment) t.turns (option_to_list h.begun) (t.moments_are told) (h.moment_is told);
+        told = All-append by t.turns (option_to_list h.begun) t.told_are h.told_is;
         events = λ told. subst (λ (es : List Event). DidOf input rest es b status) (sym t.events_are) (did_cut input rest (xs ++ h.done) b status h.within (did told));
         fits = t.fits;
         cause = subst (λ (es : List Entry). HasCause disk es h.begun (refused_after false (replies entries t.turns)) status) t.entries_are (subst (λ (r : Bool). HasCause disk h.middle.entries h.begun r status) t.refused_is h.cause);
@@ -132,24 +132,24 @@ module _ (fresh disk clock source sink : Type 0) (moment : ℕ) (entries : List 
       }
 
   -- What was left to do at the input's end, or at its limit, was done.
-  module _ (rest : List ℕ) (xs : List Event) (at : Standing) (now : DiskState) (out_now : List ℕ) (later : List Entry) (one : HaveTurned disk clock sink moment (standing entries out false) xs at) where
+  module _ (rest : List ℕ) (xs : List Event) (at : Standing) (now : DiskState) (out_now : List ℕ) (later : List Entry) (one : HaveTurned disk sink by (standing entries out false) xs at) where
     abbrev EndsWell : List Event → Type 0
     EndsWell done = (list_any ends_run done ≡ true) ⊎ (length input ≤ most_input)
 
     abbrev Came : Status → Type 0
-    Came status = Ran fresh disk clock source sink moment entries out input rest now out_now status
+    Came status = Ran fresh disk source sink by entries out input rest now out_now status
 
-    halted_more : (brought : List Event) (status : Status) → Halted fresh disk clock sink moment at brought now out_now status → (source → run_events input ≡ xs ++ brought) → Came status
+    halted_more : (brought : List Event) (status : Status) → Halted fresh disk sink by at brought now out_now status → (source → run_events input ≡ xs ++ brought) → Came status
     halted_more brought status h all = ran_halted rest xs brought at now out_now status one h
         (λ told. (h.more, all told ∙ ap (λ (l : List Event). xs ++ l) h.brought_is ∙ sym (append_assoc xs h.done (map event_in (option_to_list h.begun) ++ h.more))))
 
-    turned_more : (brought : List Event) (was : Bool) (status : Status) → HaveTurned disk clock sink moment at brought (standing later out_now was) → (source → DidOf input rest (xs ++ brought) [] status) → HasCause disk later None was status
+    turned_more : (brought : List Event) (was : Bool) (status : Status) → HaveTurned disk sink by at brought (standing later out_now was) → (source → DidOf input rest (xs ++ brought) [] status) → HasCause disk later None was status
         → TookAtEnd status [] out_now out_now → (status ≡ SinkFault → ⊥) → (disk → HasKept later now) → Came status
     turned_more brought was status more did cause took never kept =
         ran_turned rest (xs ++ brought) (standing later out_now was) now out_now status
-        (turned_then disk clock sink moment (standing entries out false) at (standing later out_now was) xs brought one more) did cause (λ told. took) never kept
+        (turned_then disk sink by (standing entries out false) at (standing later out_now was) xs brought one more) did cause (λ told. took) never kept
 
-    pub closes_ran : (brought : List Event) (status : Status) → Closes fresh disk clock sink moment at brought later now out_now status → (source → run_events input ≡ xs ++ brought) → (source → EndsWell (xs ++ brought))
+    pub closes_ran : (brought : List Event) (status : Status) → Closes fresh disk sink by at brought later now out_now status → (source → run_events input ≡ xs ++ brought) → (source → EndsWell (xs ++ brought))
         → (disk → IfBetween status (HasKept later now)) → Came status
     closes_ran brought Done closes all ends kept = turned_more brought false Done closes (λ told. (sym (all told), ends told)) (refl, refl) refl (λ is. absurd cc) kept
     closes_ran brought Refused closes all ends kept = turned_more brought true Refused closes (λ told. (sym (all told), ends told)) (refl, refl) refl (λ is. absurd cc) kept
@@ -163,13 +163,13 @@ module _ (fresh disk clock source sink : Type 0) (moment : ℕ) (entries : List 
     closes_ran brought NoMemory closes all ends kept = halted_more brought NoMemory closes all
 
   -- nothing more was done
-  module _ (rest : List ℕ) (xs : List Event) (at : Standing) (now : DiskState) (one : HaveTurned disk clock sink moment (standing entries out false) xs at) (kept : disk → HasKept at.entries now) where
-    pub ran_source : (source → (read : List ℕ) × (input ≡ read ++ rest) × (length read ≤ most_input) × (xs ≡ events begin read) × (list_any ends_run xs ≡ false)) → Ran fresh disk clock source sink moment entries out input rest now at.out SourceFault
+  module _ (rest : List ℕ) (xs : List Event) (at : Standing) (now : DiskState) (one : HaveTurned disk sink by (standing entries out false) xs at) (kept : disk → HasKept at.entries now) where
+    pub ran_source : (source → (read : List ℕ) × (input ≡ read ++ rest) × (length read ≤ most_input) × (xs ≡ events begin read) × (list_any ends_run xs ≡ false)) → Ran fresh disk source sink by entries out input rest now at.out SourceFault
     ran_source did = ran_turned rest xs at now at.out SourceFault one did refl (λ told. refl) (λ is. absurd cc) kept
 
-    pub ran_limit : (source → (xs ≡ run_events input) × (list_any ends_run xs ≡ false) × (most_input < length input)) → Ran fresh disk clock source sink moment entries out input rest now at.out InputLimit
+    pub ran_limit : (source → (xs ≡ run_events input) × (list_any ends_run xs ≡ false) × (most_input < length input)) → Ran fresh disk source sink by entries out input rest now at.out InputLimit
     ran_limit did = ran_turned rest xs at now at.out InputLimit one did refl (λ told. refl) (λ is. absurd cc) kept
 
-    pub ran_ended : (was : Last) → at.refused ≡ was_refused was → (source → (xs ≡ run_events input) × ((list_any ends_run xs ≡ true) ⊎ (length input ≤ most_input))) → Ran fresh disk clock source sink moment entries out input rest now at.out (status_after was)
+    pub ran_ended : (was : Last) → at.refused ≡ was_refused was → (source → (xs ≡ run_events input) × ((list_any ends_run xs ≡ true) ⊎ (length input ≤ most_input))) → Ran fresh disk source sink by entries out input rest now at.out (status_after was)
     ran_ended last.Done is did = ran_turned rest xs at now at.out Done one did (refl, is) (λ told. refl) (λ is. absurd cc) kept
     ran_ended last.Refused is did = ran_turned rest xs at now at.out Refused one did (refl, is) (λ told. refl) (λ is. absurd cc) kept

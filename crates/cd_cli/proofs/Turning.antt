@@ -1,5 +1,5 @@
 -- Turns, one after the other.
-use Rattle.std.proofs.Common.{◌≡◌, ℕ, ◌+◌, ◌<◌, ◌≤◌, ◌||◌, cond, ltb, Bool, true, false, List, [], ◌∷◌, ◌++◌, length, map, Option, Some, None, option_to_list, refl, sym, ap, subst, ◌∙◌, append_assoc, arith}
+use Rattle.std.proofs.Common.{◌≡◌, ℕ, ◌+◌, ◌<◌, ◌≤◌, ◌||◌, cond, ltb, Bool, true, false, List, [], ◌∷◌, ◌++◌, length, map, Option, Some, None, option_to_list, Result, Ok, Err, refl, sym, ap, subst, ◌∙◌, append_assoc, arith}
 use Rattle.std.specs.Prelude.{All}
 use Rattle.std.specs.List.{list_any}
 use Rattle.std.proofs.lemmas.Grind.{flat_map-append}
@@ -11,14 +11,24 @@ use Rattle.cd_input.specs.Input.{Event, Whole, TooLong, Unfinished}
 use Rattle.cd_turn.specs.Ends.{FitsBehind}
 use Rattle.cd_turn.specs.declared.order.Order.{Order}
 use Rattle.cd_turn.specs.declared.order.Order.TheVariants as order
-use Rattle.cd_turn.specs.Order.{told_by}
+use Rattle.cd_turn.specs.Order.{are_built, kept_with, submitting, submitted_from, viewed, order_for, order_of, heard_in, told_by}
+use Rattle.cd_ast.specs.declared.process.Process.{Process}
+use Rattle.cd_commands.specs.declared.command.Command.{Command}
+use Rattle.cd_commands.specs.declared.command.Command.TheVariants as command
+use Rattle.cd_commands.specs.declared.command.Options.{Options}
+use Rattle.cd_hearing.specs.declared.heard.Heard.{Heard}
+use Rattle.cd_hearing.specs.declared.heard.Heard.TheVariants as heard
+use Rattle.cd_shown.specs.Reading.{process_in}
+use Rattle.cd_shown.specs.declared.file.Shown.{Shown}
+use Rattle.cd_shown.specs.declared.reading.Unread.{Unread}
 use Rattle.cd_turn.specs.Reply.{reply_text, is_refused}
-use Rattle.cd_turn.specs.Turn.{Turn, answer, partner_answer, added, after_turn, after_turns, replies}
+use Rattle.cd_turn.specs.Turn.{Turn, order_in, answer, partner_answer, refusal_for, named_answer, added, after_turn, after_turns, replies}
 use Rattle.cd_turn.specs.declared.reply.Reply.{Reply}
 use Rattle.cd_turn.specs.declared.reply.Reply.TheVariants as reply
-use Rattle.cd_turn.specs.declared.reply.Refusal.TheVariants.{NotHome, Full}
+use Rattle.cd_turn.specs.declared.reply.Refusal.{Refusal}
+use Rattle.cd_turn.specs.declared.reply.Refusal.TheVariants.{NotYet, NotHome, Full}
 use Rattle.cd_cli.specs.Flow.{ends_by}
-use Rattle.cd_cli.specs.Run.{is_stop, ends_run, texts, refused_after, EachFits}
+use Rattle.cd_cli.specs.Run.{stops, is_stop, ends_run, texts, refused_after, EachFits}
 use Rattle.cd_cli.specs.Stretch.{Standing, standing, HaveTurned}
 
 pub turns_then : (entries : List Entry) (one two : List Turn) → after_turns entries (one ++ two) ≡ after_turns (after_turns entries one) two
@@ -27,7 +37,7 @@ turns_then entries (turn ∷ one) two = turns_then (after_turn entries turn) one
 
 replies_then : (entries : List Entry) (one two : List Turn) → replies entries (one ++ two) ≡ replies entries one ++ replies (after_turns entries one) two
 replies_then entries [] two = refl
-replies_then entries (turn ∷ one) two = ap (λ (r : List Reply). answer entries (told_by turn.event) ∷ r) (replies_then (after_turn entries turn) one two)
+replies_then entries (turn ∷ one) two = ap (λ (r : List Reply). answer entries (order_in turn) ∷ r) (replies_then (after_turn entries turn) one two)
 
 texts_then : (entries : List Entry) (one two : List Turn) → texts (replies entries (one ++ two)) ≡ texts (replies entries one) ++ texts (replies (after_turns entries one) two)
 texts_then entries one two = ap texts (replies_then entries one two) ∙ flat_map-append reply_text (replies entries one) (replies (after_turns entries one) two)
@@ -44,11 +54,11 @@ fits_then entries [] two a b = b
 fits_then entries (turn ∷ one) two a b = (a.0, fits_then (after_turn entries turn) one two a.1 b)
 
 -- no turn was made
-pub turned_none : (disk clock sink : Type 0) (moment : ℕ) (at : Standing) → HaveTurned disk clock sink moment at [] at
-turned_none disk clock sink moment at = record {
+pub turned_none : (disk sink : Type 0) (by : Turn → Type 0) (at : Standing) → HaveTurned disk sink by at [] at
+turned_none disk sink by at = record {
   turns = [];
   events_are = refl;
-  moments_are = λ told. All-nil (λ (turn : Turn). turn.now ≡ moment);
+  told_are = All-nil by;
   entries_are = refl;
   refused_is = refl;
   out_is = λ told. sym (append-nil at.out);
@@ -56,12 +66,12 @@ turned_none disk clock sink moment at = record {
 }
 
 -- turns, and then more
-pub turned_then : (disk clock sink : Type 0) (moment : ℕ) (a b c : Standing) (xs ys : List Event) → HaveTurned disk clock sink moment a xs b → HaveTurned disk clock sink moment b ys c → HaveTurned disk clock sink moment a (xs ++ ys) c
-turned_then disk clock sink moment a b c xs ys one two = record {
+pub turned_then : (disk sink : Type 0) (by : Turn → Type 0) (a b c : Standing) (xs ys : List Event) → HaveTurned disk sink by a xs b → HaveTurned disk sink by b ys c → HaveTurned disk sink by a (xs ++ ys) c
+turned_then disk sink by a b c xs ys one two = record {
   turns = one.turns ++ two.turns;
   events_are = map-append (λ (turn : Turn). turn.event) one.turns two.turns
       ∙ ap (λ (l : List Event). l ++ map (λ (turn : Turn). turn.event) two.turns) one.events_are ∙ ap (λ (l : List Event). xs ++ l) two.events_are;
-  moments_are = λ told. All-append (λ (turn : Turn). turn.now ≡ moment) one.turns two.turns (one.moments_are told) (two.moments_are told);
+  told_are = All-append by one.turns two.turns one.told_are two.told_are;
   entries_are = two.entries_are ∙ ap (λ (e : List Entry). after_turns e two.turns) one.entries_are ∙ sym (turns_then a.entries one.turns two.turns);
   refused_is = two.refused_is
       ∙ ap (λ (was : Bool). refused_after was (replies b.entries two.turns)) one.refused_is
@@ -76,28 +86,27 @@ turned_then disk clock sink moment a b c xs ys one two = record {
 }
 
 -- the turn of what came to its end
-pub turned_one : (disk clock sink : Type 0) (moment : ℕ) (entries later : List Entry) (out out_now : List ℕ) (was is : Bool) (now : ℕ) (event : Event) (wanted : Order) (given : Reply)
-    → wanted ≡ told_by event → later ≡ entries ++ option_to_list (added entries now wanted) → given ≡ answer entries wanted → (sink → out_now ≡ out ++ reply_text given)
-    → (disk → FitsBehind entries (added entries now wanted)) → (clock → now ≡ moment) → is ≡ is_refused given → HaveTurned disk clock sink moment (standing entries out was) (event ∷ []) (standing later out_now is)
-turned_one disk clock sink moment entries later out out_now was is now event wanted given e grown answered told fits at refused =
-    let turn : Turn = record { now = now; event = event } in
-    let answer_is : given ≡ answer entries (told_by event) = answered ∙ ap (answer entries) e in
+pub turned_one : (disk sink : Type 0) (by : Turn → Type 0) (entries later : List Entry) (out out_now : List ℕ) (was is : Bool) (turn : Turn) (wanted : Order) (given : Reply)
+    → wanted ≡ order_in turn → later ≡ entries ++ option_to_list (added entries turn.now wanted) → given ≡ answer entries wanted → (sink → out_now ≡ out ++ reply_text given)
+    → (disk → FitsBehind entries (added entries turn.now wanted)) → by turn → is ≡ is_refused given → HaveTurned disk sink by (standing entries out was) (turn.event ∷ []) (standing later out_now is)
+turned_one disk sink by entries later out out_now was is turn wanted given e grown answered told fits at refused =
+    let answer_is : given ≡ answer entries (order_in turn) = answered ∙ ap (answer entries) e in
     record {
       turns = turn ∷ [];
       events_are = refl;
-      moments_are = λ t. All-cons (λ (turn : Turn). turn.now ≡ moment) turn [] (at t) (All-nil (λ (turn : Turn). turn.now ≡ moment));
-      entries_are = grown ∙ ap (λ (c : Order). entries ++ option_to_list (added entries now c)) e;
+      told_are = All-cons by turn [] at (All-nil by);
+      entries_are = grown ∙ ap (λ (c : Order). entries ++ option_to_list (added entries turn.now c)) e;
       refused_is = refused ∙ ap is_refused answer_is;
-      out_is = λ t. told t ∙ ap (λ (r : Reply). out ++ reply_text r) answer_is ∙ ap (λ (text : List ℕ). out ++ text) (sym (append-nil (reply_text (answer entries (told_by event)))));
-      fits = λ t. (subst (λ (c : Order). FitsBehind entries (added entries now c)) e (fits t), tt);
+      out_is = λ t. told t ∙ ap (λ (r : Reply). out ++ reply_text r) answer_is ∙ ap (λ (text : List ℕ). out ++ text) (sym (append-nil (reply_text (answer entries (order_in turn)))));
+      fits = λ t. (subst (λ (c : Order). FitsBehind entries (added entries turn.now c)) e (fits t), tt);
     }
 
--- the clock gave the moment that it gave at first
-pub turned_since : (disk clock sink : Type 0) (moment first : ℕ) (a b : Standing) (xs : List Event) → (clock → moment ≡ first) → HaveTurned disk clock sink moment a xs b → HaveTurned disk clock sink first a xs b
-turned_since disk clock sink moment first a b xs same one = record {
+-- what goes by less goes by more
+pub turned_since : (disk sink : Type 0) (by first : Turn → Type 0) (a b : Standing) (xs : List Event) → ((turn : Turn) → by turn → first turn) → HaveTurned disk sink by a xs b → HaveTurned disk sink first a xs b
+turned_since disk sink by first a b xs same one = record {
   turns = one.turns;
   events_are = one.events_are;
-  moments_are = λ told. All-weaker (λ (turn : Turn). turn.now ≡ moment) (λ (turn : Turn). turn.now ≡ first) (λ turn e. e ∙ same told) one.turns (one.moments_are told);
+  told_are = All-weaker by first same one.turns one.told_are;
   entries_are = one.entries_are;
   refused_is = one.refused_is;
   out_is = one.out_is;
@@ -113,19 +122,57 @@ partner_goes text entries (Some snode) = goes_on (ltb (live_in entries) 4096) _
     goes_on true n = refl
     goes_on false n = refl
 
-stop_ends : (text : List ℕ) (entries : List Entry) (wanted : Order) → ends_by (Whole text) (answer entries wanted) ≡ is_stop wanted
-stop_ends text entries (order.Wrong name at) = refl
-stop_ends text entries order.NotBuilt = refl
-stop_ends text entries order.Stop = refl
-stop_ends text [] (order.Init name home) = refl
-stop_ends text (e ∷ entries) (order.Init name home) = refl
-stop_ends text [] (order.Submit p) = refl
-stop_ends text (e ∷ entries) (order.Submit p) = partner_goes text (e ∷ entries) p.card.snode
+named_goes : (text : List ℕ) (entries : List Entry) (refusal : Refusal) → ends_by (Whole text) (named_answer entries refusal) ≡ false
+named_goes text [] refusal = refl
+named_goes text (e ∷ entries) refusal = refl
 
-pub answer_ends : (event : Event) (entries : List Entry) → ends_by event (answer entries (told_by event)) ≡ ends_run event
-answer_ends (Whole text) entries = stop_ends text entries (told_by (Whole text))
-answer_ends TooLong entries = refl
-answer_ends Unfinished entries = refl
+submit_goes : (text : List ℕ) (entries : List Entry) (if_none : Order) (kept : Option Process) → ((r : List Entry) → ends_by (Whole text) (answer r if_none) ≡ false) → ends_by (Whole text) (answer entries (submitting if_none kept)) ≡ false
+submit_goes text entries if_none None other = other entries
+submit_goes text [] if_none (Some p) other = refl
+submit_goes text (e ∷ entries) if_none (Some p) other = partner_goes text (e ∷ entries) p.card.snode
+
+text_goes : (text : List ℕ) (entries : List Entry) (built : Bool) (kept : Option Process) → ends_by (Whole text) (answer entries (cond built (submitting order.NotBuilt kept) order.NotBuilt)) ≡ false
+text_goes text entries true kept = submit_goes text entries order.NotBuilt kept (λ r. refl)
+text_goes text entries false kept = refl
+
+file_goes : (text : List ℕ) (entries : List Entry) (built : Bool) (options : Options) (read : Result Process Unread) → ends_by (Whole text) (answer entries (cond built (submitted_from options read) order.NotBuilt)) ≡ false
+file_goes text entries true options (Ok p) = submit_goes text entries order.SubmitNotBuilt (kept_with options p) (λ r. named_goes text r NotYet)
+file_goes text entries true options (Err why) = named_goes text entries (refusal_for why)
+file_goes text entries false options read = refl
+
+view_goes : (text : List ℕ) (entries : List Entry) (read : Result Process Unread) → ends_by (Whole text) (answer entries (viewed read)) ≡ false
+view_goes text entries (Ok p) = refl
+view_goes text entries (Err why) = refl
+
+init_goes : (text : List ℕ) (entries : List Entry) (name : List ℕ) (home : ℕ) → ends_by (Whole text) (answer entries (order.Init name home)) ≡ false
+init_goes text [] name home = refl
+init_goes text (e ∷ entries) name home = refl
+
+command_ends : (text : List ℕ) (entries : List Entry) (c : Command) (shown : Shown) → ends_by (Whole text) (answer entries (order_for c shown)) ≡ stops c
+command_ends text entries (command.Init name home) shown = init_goes text entries name home
+command_ends text entries (command.SubmitFile name options) shown = file_goes text entries (are_built options) options (process_in name options.symbols shown)
+command_ends text entries (command.SubmitText p options) shown = text_goes text entries (are_built options) (kept_with options p)
+command_ends text entries (command.View name symbols) shown = view_goes text entries (process_in name symbols shown)
+command_ends text entries (command.SelectProcess n queue) shown = refl
+command_ends text entries (command.Change n prty hold release) shown = refl
+command_ends text entries (command.Delete n) shown = refl
+command_ends text entries (command.Flush n) shown = refl
+command_ends text entries (command.SelectStatistics n) shown = refl
+command_ends text entries (command.ReleaseReceive file) shown = refl
+command_ends text entries (command.Work sessions turns) shown = refl
+command_ends text entries (command.Serve sessions together turns) shown = refl
+command_ends text entries (command.Drill file) shown = refl
+command_ends text entries (command.Generate seed count) shown = refl
+command_ends text entries command.Stop shown = refl
+
+heard_ends : (text : List ℕ) (entries : List Entry) (said : Heard) (shown : Shown) → ends_by (Whole text) (answer entries (order_of said shown)) ≡ is_stop said
+heard_ends text entries (heard.Command c) shown = command_ends text entries c shown
+heard_ends text entries (heard.Fault name at) shown = refl
+
+pub answer_ends : (event : Event) (entries : List Entry) (shown : Shown) → ends_by event (answer entries (told_by event shown)) ≡ ends_run event
+answer_ends (Whole text) entries shown = heard_ends text entries (heard_in (Whole text)) shown
+answer_ends TooLong entries shown = refl
+answer_ends Unfinished entries shown = refl
 
 pub or_false : (b : Bool) → (b || false) ≡ b
 or_false true = refl

@@ -29,6 +29,7 @@ abbrev pub ends_by : Event → Reply → Bool
 ends_by (Whole text) reply.Stopped = true
 ends_by (Whole text) (reply.Home name home) = false
 ends_by (Whole text) (reply.Submitted number) = false
+ends_by (Whole text) (reply.Viewed seen) = false
 ends_by (Whole text) (reply.Refused refusal) = false
 ends_by TooLong given = true
 ends_by Unfinished given = true

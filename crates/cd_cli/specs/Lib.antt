@@ -4,3 +4,4 @@ pub mod Stretch
 pub mod Reader
 pub mod Acknowledged
 pub mod Complete
+pub mod Told

@@ -9,12 +9,14 @@ use Rattle.cd_input.specs.Input.{Event, Whole, TooLong, Unfinished, begin, event
 use Rattle.cd_turn.specs.Ends.{MayLeave, FitsBehind, IsFull, TookAtEnd}
 use Rattle.cd_turn.specs.Home.{HomeState, IsHome, StandsFor, IsJournal, HasKept}
 use Rattle.cd_turn.specs.Legal.{IsLegal, Extends}
-use Rattle.cd_turn.specs.Order.{told_by}
-use Rattle.cd_turn.specs.declared.order.Order.{Order}
-use Rattle.cd_turn.specs.declared.order.Order.TheVariants as order
+use Rattle.cd_commands.specs.declared.command.Command.{Command}
+use Rattle.cd_commands.specs.declared.command.Command.TheVariants as command
+use Rattle.cd_hearing.specs.declared.heard.Heard.{Heard}
+use Rattle.cd_hearing.specs.declared.heard.Heard.TheVariants as heard
+use Rattle.cd_turn.specs.Order.{heard_in}
 use Rattle.cd_turn.specs.Reply.{reply_text, is_refused}
 use Rattle.cd_turn.specs.Status.{last_line}
-use Rattle.cd_turn.specs.Turn.{Turn, answer, added, after_turn, after_turns, replies}
+use Rattle.cd_turn.specs.Turn.{Turn, order_in, answer, added, after_turn, after_turns, replies}
 use Rattle.cd_cli.specs.Acknowledged.{tells, KeepsNumber}
 use Rattle.cd_turn.specs.declared.reply.Reply.{Reply}
 use Rattle.cd_turn.specs.declared.status.Status.{Status}
@@ -24,16 +26,17 @@ use Rattle.cd_turn.specs.declared.status.Status.TheVariants.{Done, Usage, Refuse
 abbrev pub most_input : ℕ
 most_input = 16777216
 
-abbrev pub is_stop : Order → Bool
-is_stop (order.Wrong name at) = false
-is_stop order.NotBuilt = false
-is_stop (order.Init name home) = false
-is_stop (order.Submit process) = false
-is_stop order.Stop = true
+abbrev pub stops : Command → Bool
+stops command.Stop = true
+stops _ = false
+
+abbrev pub is_stop : Heard → Bool
+is_stop (heard.Command c) = stops c
+is_stop (heard.Fault name at) = false
 
 -- the run ends with this: `stop`, a command that is too long, or one that the input's end cuts off
 abbrev pub ends_run : Event → Bool
-ends_run (Whole text) = is_stop (told_by (Whole text))
+ends_run (Whole text) = is_stop (heard_in (Whole text))
 ends_run TooLong = true
 ends_run Unfinished = true
 
@@ -53,17 +56,17 @@ refused_after before (reply ∷ given) = refused_after (is_refused reply) given
 -- each entry that these turns add fits into the journal
 abbrev pub EachFits : List Entry → List Turn → Type 0
 EachFits entries [] = Unit {0}
-EachFits entries (turn ∷ turns) = FitsBehind entries (added entries turn.now (told_by turn.event)) × EachFits (after_turn entries turn) turns
+EachFits entries (turn ∷ turns) = FitsBehind entries (added entries turn.now (order_in turn)) × EachFits (after_turn entries turn) turns
 
 -- the line of the answer to this turn, if there is one
 abbrev pub line_of : List Entry → Option Turn → List ℕ
 line_of entries None = []
-line_of entries (Some turn) = reply_text (answer entries (told_by turn.event))
+line_of entries (Some turn) = reply_text (answer entries (order_in turn))
 
 -- P of the entry that this turn would add; there is a turn
 abbrev pub OfBegun : List Entry → Option Turn → (Option Entry → Type 0) → Type 0
 OfBegun entries None P = ⊥
-OfBegun entries (Some turn) P = P (added entries turn.now (told_by turn.event))
+OfBegun entries (Some turn) P = P (added entries turn.now (order_in turn))
 
 -- Why a run ended with this status behind turns that led to these entries; begun is the turn that was under way, if any, and
 -- refused tells whether the last command was.
@@ -93,7 +96,7 @@ DidOf input rest done begun _ = (more : List Event) × (run_events input ≡ don
 -- what this turn adds to these entries; without a turn nothing
 abbrev pub added_by : List Entry → Option Turn → Option Entry
 added_by entries None = None
-added_by entries (Some turn) = added entries turn.now (told_by turn.event)
+added_by entries (Some turn) = added entries turn.now (order_in turn)
 
 -- The journal's bytes that a crash may leave behind turns that led to these entries: those of the entries; where a turn is under
 -- way, those of the entries with what it adds too.
@@ -114,13 +117,13 @@ IfBetween InputLimit holds = holds
 IfBetween _ holds = Unit {0}
 
 -- What a run of a home with these entries did, from its devices before to its devices now; the types say which of them tell, and
--- fresh that the journal had no bytes before.
-pub record Ran (fresh disk clock source sink : Type 0) (moment : ℕ) (entries : List Entry) (out input rest : List ℕ) (now : DiskState) (out_now : List ℕ) (status : Status) : Type 0 where
+-- fresh that the journal had no bytes before. By says of a turn that it goes by what clock and files tell.
+pub record Ran (fresh disk source sink : Type 0) (by : Turn → Type 0) (entries : List Entry) (out input rest : List ℕ) (now : DiskState) (out_now : List ℕ) (status : Status) : Type 0 where
   -- the turns that were made, and the one that was under way at the end, if any
   pub turns : List Turn
   pub begun : Option Turn
-  -- each at the clock's moment
-  pub moments : clock → All (λ turn. turn.now ≡ moment) (turns ++ option_to_list begun)
+  -- each goes by what clock and files tell
+  pub told : All by (turns ++ option_to_list begun)
   -- they are those of the input
   pub events : source → DidOf input rest (map (λ turn. turn.event) turns) (map (λ turn. turn.event) (option_to_list begun)) status
   pub fits : disk → EachFits entries turns
@@ -154,23 +157,23 @@ pub record NotOpened (disk source sink : Type 0) (before now : DiskState) (input
   pub silent : sink → out_now ≡ out
 
 -- The home was opened, with the entries that the journal's bytes stood for, and the node ran.
-pub record Opened (disk clock source sink : Type 0) (moment : ℕ) (before now : DiskState) (input rest out out_now : List ℕ) (status : Status) : Type 0 where
+pub record Opened (disk source sink : Type 0) (by : Turn → Type 0) (before now : DiskState) (input rest out out_now : List ℕ) (status : Status) : Type 0 where
   pub entries : List Entry
   pub stood : disk → StandsFor before.seen entries
   pub legal : IsLegal entries
-  pub ran : Ran (before.seen ≡ []) disk clock source sink moment entries out input rest now out_now status
+  pub ran : Ran (before.seen ≡ []) disk source sink by entries out input rest now out_now status
   -- each number that a reply told is that of a submission in each journal that a crash may leave from now on
   pub acknowledged : disk → (n : ℕ) (image : List ℕ) → list_any (tells n) (replies entries (told_turns status ran.turns ran.begun)) ≡ true → IsImage now.doubt image → KeepsNumber n image
 
 -- a run, up to its last line
-abbrev pub Came : (disk clock source sink : Type 0) → ℕ → DiskState → DiskState → List ℕ → List ℕ → List ℕ → List ℕ → Status → Type 0
-Came disk clock source sink moment before now input rest out out_now status =
-    NotOpened disk source sink before now input rest out out_now status ⊎ Opened disk clock source sink moment before now input rest out out_now status
+abbrev pub Came : (disk source sink : Type 0) → (Turn → Type 0) → DiskState → DiskState → List ℕ → List ℕ → List ℕ → List ℕ → Status → Type 0
+Came disk source sink by before now input rest out out_now status =
+    NotOpened disk source sink before now input rest out out_now status ⊎ Opened disk source sink by before now input rest out out_now status
 
 -- a run, and then its last line
-pub record Served (disk clock source sink rose : Type 0) (moment : ℕ) (before now : DiskState) (input rest out out_now : List ℕ) (status : Status) : Type 0 where
+pub record Served (disk source sink rose : Type 0) (by : Turn → Type 0) (before now : DiskState) (input rest out out_now : List ℕ) (status : Status) : Type 0 where
   pub told : List ℕ
-  pub came : Came disk clock source sink moment before now input rest out told status
+  pub came : Came disk source sink by before now input rest out told status
   pub last : sink → TookLine rose told (last_line status) out_now
 
 -- Why a run ended: it came to its end; or a device failed; the journal's bytes at a place aren't a journal's; an entry doesn't
@@ -192,20 +195,20 @@ pub record GoneOn (entries : List Entry) (before : DiskState) (from : ℕ) (home
   pub forward : from ≤ beat
 
 -- The journal's bytes are those of these entries and of what turns add behind them. The turns are those of the first of these
--- events, in order, each at the clock's moment; the types say which of the devices tell.
-pub record LeftByTurns (clock source : Type 0) (moment : ℕ) (entries : List Entry) (brought : List Event) (image : List ℕ) : Type 0 where
+-- events, in order, each by what clock and files tell; the type says whether the source tells.
+pub record LeftByTurns (source : Type 0) (by : Turn → Type 0) (entries : List Entry) (brought : List Event) (image : List ℕ) : Type 0 where
   pub turns : List Turn
   pub events : source → (more : List Event) × (brought ≡ map (λ turn. turn.event) turns ++ more)
-  pub moments : clock → All (λ turn. turn.now ≡ moment) turns
+  pub told : All by turns
   pub journal : IsJournal (after_turns entries turns) image
 
 -- What a crash may leave while turns of these events are made, one after the other: what the first of them led to; and where
 -- there was no journal yet, up to nine bytes of any kind.
-abbrev pub TurnsMayLeave : (fresh clock source : Type 0) → ℕ → List Entry → List Event → List ℕ → Type 0
-TurnsMayLeave fresh clock source moment entries brought image = LeftByTurns clock source moment entries brought image ⊎ (fresh × (entries ≡ []) × (length image ≤ 9))
+abbrev pub TurnsMayLeave : (fresh source : Type 0) → (Turn → Type 0) → List Entry → List Event → List ℕ → Type 0
+TurnsMayLeave fresh source by entries brought image = LeftByTurns source by entries brought image ⊎ (fresh × (entries ≡ []) × (length image ≤ 9))
 
 -- What a crash may leave at any moment of a run: what it might have left before, which the opening only syncs; or what it may
 -- leave while turns of the input's events are made on the entries of the journal's bytes at the begin.
-abbrev pub RunMayLeave : (clock source : Type 0) → ℕ → List ℕ → DiskState → List ℕ → Type 0
-RunMayLeave clock source moment input before image =
-    IsImage before.doubt image ⊎ ((entries : List Entry) × StandsFor before.seen entries × TurnsMayLeave (before.seen ≡ []) clock source moment entries (run_events input) image)
+abbrev pub RunMayLeave : (source : Type 0) → (Turn → Type 0) → List ℕ → DiskState → List ℕ → Type 0
+RunMayLeave source by input before image =
+    IsImage before.doubt image ⊎ ((entries : List Entry) × StandsFor before.seen entries × TurnsMayLeave (before.seen ≡ []) source by entries (run_events input) image)

@@ -23,24 +23,24 @@ pub record Standing : Type 0 where
 abbrev pub standing : List Entry → List ℕ → Bool → Standing
 standing entries out refused = record { entries = entries; out = out; refused = refused }
 
--- Turns of these events were made, one after the other.
-pub record HaveTurned (disk clock sink : Type 0) (moment : ℕ) (before : Standing) (done : List Event) (after : Standing) : Type 0 where
+-- Turns of these events were made, one after the other, each by what clock and files tell.
+pub record HaveTurned (disk sink : Type 0) (by : Turn → Type 0) (before : Standing) (done : List Event) (after : Standing) : Type 0 where
   pub turns : List Turn
   pub events_are : map (λ turn. turn.event) turns ≡ done
-  pub moments_are : clock → All (λ turn. turn.now ≡ moment) turns
+  pub told_are : All by turns
   pub entries_are : after.entries ≡ after_turns before.entries turns
   pub refused_is : after.refused ≡ refused_after before.refused (replies before.entries turns)
   pub out_is : sink → after.out ≡ before.out ++ texts (replies before.entries turns)
   pub fits : disk → EachFits before.entries turns
 
 -- Turns of some of these events were made, in order, and then the run was ended, maybe within the next turn.
-pub record Halted (fresh disk clock sink : Type 0) (moment : ℕ) (before : Standing) (brought : List Event) (now : DiskState) (out : List ℕ) (status : Status) : Type 0 where
+pub record Halted (fresh disk sink : Type 0) (by : Turn → Type 0) (before : Standing) (brought : List Event) (now : DiskState) (out : List ℕ) (status : Status) : Type 0 where
   pub done : List Event
   pub middle : Standing
-  pub turned : HaveTurned disk clock sink moment before done middle
+  pub turned : HaveTurned disk sink by before done middle
   pub quiet : list_any ends_run done ≡ false
   pub begun : Option Turn
-  pub moment_is : clock → All (λ turn. turn.now ≡ moment) (option_to_list begun)
+  pub told_is : All by (option_to_list begun)
   pub more : List Event
   pub brought_is : brought ≡ done ++ (map (λ turn. turn.event) (option_to_list begun) ++ more)
   pub cause : HasCause disk middle.entries begun middle.refused status
@@ -50,18 +50,18 @@ pub record Halted (fresh disk clock sink : Type 0) (moment : ℕ) (before : Stan
   pub keeps : disk → (image : List ℕ) → IsImage now.doubt image → Keeps fresh middle.entries begun image
 
 -- all of these were done, and the run goes on unless one of them ends it
-pub record Went (disk clock sink : Type 0) (moment : ℕ) (before : Standing) (brought : List Event) (entries : List Entry) (out : List ℕ) (flow : Flow) : Type 0 where
+pub record Went (disk sink : Type 0) (by : Turn → Type 0) (before : Standing) (brought : List Event) (entries : List Entry) (out : List ℕ) (flow : Flow) : Type 0 where
   pub ends : ends_in flow ≡ list_any ends_run brought
   pub once : upto_first ends_run brought ≡ brought
-  pub turned : HaveTurned disk clock sink moment before brought (standing entries out (was_refused (last_in flow)))
+  pub turned : HaveTurned disk sink by before brought (standing entries out (was_refused (last_in flow)))
 
 -- these were all that was left to do
-abbrev pub Closes : (fresh disk clock sink : Type 0) → ℕ → Standing → List Event → List Entry → DiskState → List ℕ → Status → Type 0
-Closes fresh disk clock sink moment before brought entries now out Done = HaveTurned disk clock sink moment before brought (standing entries out false)
-Closes fresh disk clock sink moment before brought entries now out Refused = HaveTurned disk clock sink moment before brought (standing entries out true)
-Closes fresh disk clock sink moment before brought entries now out status = Halted fresh disk clock sink moment before brought now out status
+abbrev pub Closes : (fresh disk sink : Type 0) → (Turn → Type 0) → Standing → List Event → List Entry → DiskState → List ℕ → Status → Type 0
+Closes fresh disk sink by before brought entries now out Done = HaveTurned disk sink by before brought (standing entries out false)
+Closes fresh disk sink by before brought entries now out Refused = HaveTurned disk sink by before brought (standing entries out true)
+Closes fresh disk sink by before brought entries now out status = Halted fresh disk sink by before brought now out status
 
 -- What is left to do is none or one of these: where there is none, nothing was done and this status was given.
-abbrev pub Finishes : (fresh disk clock sink : Type 0) → ℕ → Standing → DiskState → List Event → Status → List Entry → DiskState → List ℕ → Status → Type 0
-Finishes fresh disk clock sink moment before was [] if_none entries now out status = (status ≡ if_none) × (entries ≡ before.entries) × (out ≡ before.out) × (now ≡ was)
-Finishes fresh disk clock sink moment before was (event ∷ more) if_none entries now out status = Closes fresh disk clock sink moment before (event ∷ more) entries now out status
+abbrev pub Finishes : (fresh disk sink : Type 0) → (Turn → Type 0) → Standing → DiskState → List Event → Status → List Entry → DiskState → List ℕ → Status → Type 0
+Finishes fresh disk sink by before was [] if_none entries now out status = (status ≡ if_none) × (entries ≡ before.entries) × (out ≡ before.out) × (now ≡ was)
+Finishes fresh disk sink by before was (event ∷ more) if_none entries now out status = Closes fresh disk sink by before (event ∷ more) entries now out status

@@ -22,31 +22,31 @@ pub(crate) enum Flow {
     Ends(Last),
 }
 
-fn last_of(reply: Reply) -> Last
-    ensures { was_refused result ≡ is_refused reply }
+fn last_of(reply: &Reply) -> Last
+    ensures { was_refused result ≡ is_refused reply.now }
 {
     match reply {
         Reply::Refused(_) => Last::Refused,
-        Reply::Home(..) | Reply::Submitted(_) | Reply::Stopped => Last::Done,
+        Reply::Home(..) | Reply::Submitted(_) | Reply::Viewed(_) | Reply::Stopped => Last::Done,
     }
 }
 
 // What the reply to a command makes of the run.
-fn flow_after(reply: Reply) -> Flow
-    ensures ends { (text : List ℕ) → ends_in result ≡ ends_by (Whole text) reply }
-    ensures last { was_refused (last_in result) ≡ is_refused reply }
+fn flow_after(reply: &Reply) -> Flow
+    ensures ends { (text : List ℕ) → ends_in result ≡ ends_by (Whole text) reply.now }
+    ensures last { was_refused (last_in result) ≡ is_refused reply.now }
 {
     match reply {
         Reply::Stopped => Flow::Ends(Last::Done),
         Reply::Refused(_) => Flow::Goes(Last::Refused),
-        Reply::Home(..) | Reply::Submitted(_) => Flow::Goes(Last::Done),
+        Reply::Home(..) | Reply::Submitted(_) | Reply::Viewed(_) => Flow::Goes(Last::Done),
     }
 }
 
 /// What the reply to what came to its end makes of the run.
-pub(crate) fn flow_of(found: &Found, reply: Reply) -> Flow
-    ensures ends { ends_in result ≡ ends_by (event_of found.now) reply }
-    ensures last { was_refused (last_in result) ≡ is_refused reply }
+pub(crate) fn flow_of(found: &Found, reply: &Reply) -> Flow
+    ensures ends { ends_in result ≡ ends_by (event_of found.now) reply.now }
+    ensures last { was_refused (last_in result) ≡ is_refused reply.now }
 {
     match found {
         Found::Command(_) => flow_after(reply),

@@ -56,6 +56,17 @@ impl Exchange {
         }
     }
 
+    /// The bytes that were taken from a session; none where there is no such session.
+    pub fn taken(&self, number: u64) -> &[u8]
+        ensures { result.now ≡ (traffic_in self.now).taken number }
+    {
+        if 0 < number && number <= self.last() {
+            self.sessions[(number - 1) as usize].taken()
+        } else {
+            &[]
+        }
+    }
+
     /// Takes bytes from a session.
     pub fn take(&mut self, number: u64, bytes: &[u8]) -> Result<(), NoMemory>
         requires from { 1 ≤ number }

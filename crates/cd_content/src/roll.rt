@@ -92,6 +92,17 @@ impl Roll {
         }
     }
 
+    /// The bytes that were taken from a session; none where there is no such session.
+    pub fn taken(&self, number: u64) -> &[u8]
+        ensures { result.now ≡ (roll_traffic self.now).taken number }
+    {
+        if 0 < number && number <= self.last() {
+            self.taken.part((number - 1) as usize)
+        } else {
+            &[]
+        }
+    }
+
     /// Takes bytes from a session.
     pub fn take(&mut self, number: u64, bytes: &[u8]) -> Result<(), NoMemory>
         requires from { 1 ≤ number }

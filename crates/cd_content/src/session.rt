@@ -43,6 +43,13 @@ impl Session {
         &self.given
     }
 
+    /// The bytes that were taken from it.
+    pub fn taken(&self) -> &[u8]
+        ensures { result.now ≡ self.now.taken }
+    {
+        &self.taken
+    }
+
     /// Takes bytes from it.
     pub fn take(&mut self, bytes: &[u8]) -> Result<(), NoMemory>
         ensures taken { OnOk result (self.new ≡ record self.old { taken = self.old.taken ++ bytes.now }) }

@@ -102,6 +102,13 @@ impl MemoryLines {
         self.exchange.given(session)
     }
 
+    /// The bytes that were taken from a session.
+    pub fn taken(&self, session: u64) -> &[u8]
+        ensures { result.now ≡ (traffic_of self.now).taken session }
+    {
+        self.exchange.taken(session)
+    }
+
     /// A call found no memory.
     pub fn starved(&self) -> bool
         ensures { result ≡ are_starved self.now }

@@ -90,6 +90,13 @@ impl SteadyLines {
     {
         self.roll.given(session)
     }
+
+    /// The bytes that were taken from a session.
+    pub fn taken(&self, session: u64) -> &[u8]
+        ensures { result.now ≡ (traffic_of self.now).taken session }
+    {
+        self.roll.taken(session)
+    }
 }
 
 impl Lines for SteadyLines {

@@ -1,10 +1,7 @@
-mod Coming
-mod Crashing
+mod AfterTurn
 mod Due
-mod Formed
+mod Giving
 mod Greeting
 mod Opening
 mod Places
-mod Recorded
-mod Taken
-mod Turning
+mod Reading

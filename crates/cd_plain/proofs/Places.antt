@@ -9,7 +9,7 @@ use Rattle.cd_frames.specs.Reading.{Reading}
 use Rattle.cd_frames.specs.Run.{made}
 use Rattle.cd_node.specs.declared.session.Session.{Session}
 use Rattle.cd_moves.specs.declared.session.Phase.{Phase}
-use Rattle.cd_plain.specs.Arriving.{TookOfOne}
+use Rattle.cd_handling.specs.Arriving.{TookOfOne}
 use Rattle.cd_plain.specs.NodeState.{is_gone, AreRising, IsNewest, WasRead, AreRead, IsUnread}
 use Rattle.cd_plain.specs.Turned.{in_phase, is_open_as, place_of}
 

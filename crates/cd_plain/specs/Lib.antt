@@ -1,10 +1,6 @@
-pub mod Arriving
 pub mod Choice
 pub mod Chosen
 pub mod Crash
-pub mod Handling
 pub mod Law
 pub mod NodeState
-pub mod Setting
-pub mod Turn
 pub mod Turned

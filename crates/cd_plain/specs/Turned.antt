@@ -13,12 +13,12 @@ use Rattle.cd_moves.specs.declared.session.Phase.TheVariants.{Gone}
 use Rattle.cd_deeds.specs.Stands.{Spot, spot}
 use Rattle.cd_deeds.specs.declared.fault.Fault.{Fault}
 use Rattle.cd_node.specs.declared.session.Session.{Session}
-use Rattle.cd_plain.specs.Handling.{DidEnd, EndStopped}
+use Rattle.cd_handling.specs.Handling.{DidEnd, EndStopped}
 use Rattle.cd_plain.specs.NodeState.{NodeState, is_gone}
-use Rattle.cd_plain.specs.Setting.{setting_of}
-use Rattle.cd_plain.specs.Turn.{MayBeLost, TookTurn, TurnFailed}
-use Rattle.cd_plain.specs.declared.ending.Ending.{Ending}
-use Rattle.cd_plain.specs.declared.ending.Ending.TheVariants as an_ending
+use Rattle.cd_handling.specs.Setting.{setting_of}
+use Rattle.cd_handling.specs.Turn.{MayBeLost, TookTurn, TurnFailed}
+use Rattle.cd_handling.specs.declared.ending.Ending.{Ending}
+use Rattle.cd_handling.specs.declared.ending.Ending.TheVariants as an_ending
 use Rattle.cd_plain.specs.declared.handled.Handled.{Handled}
 use Rattle.cd_plain.specs.declared.handled.Handled.TheVariants as handled
 

@@ -17,10 +17,10 @@ ghost use Rattle.cd_parts.specs.Desk.{desk_of};
 ghost use Rattle.cd_plain.specs.Choice.{placing_of, GaveOfOne, IsFaultOfPlacing};
 ghost use Rattle.cd_plain.specs.Chosen.{busy_in, placed_in, IsKnown, IsPlaced};
 
-use crate::recording::try_record;
 use cd_book::Texts;
 use cd_deeds::{Fault, Holders, Registry, perform};
 use cd_entries::Entry;
+use cd_handling::try_record;
 use cd_moves::{Deed, Phase};
 use cd_node::Session;
 use cd_outside::{Beat, Disk, Files, Lines, Sid};

@@ -1,24 +1,13 @@
-//! A plain node: the rules of a session as running code, joined to the devices.
+//! A plain node: its sessions and what it has recorded, with its turns and choices.
 #![tactic(auto)]
 
-mod arriving;
-mod at_hand;
 mod choosing;
-mod ending;
 mod handled;
 mod law;
+mod meeting;
 mod node;
-mod recording;
-mod rules;
-mod taking;
-mod turn;
+mod turning;
 
-pub use arriving::{Came, next_frame};
-pub use ending::Ending;
 pub use handled::Handled;
 pub use law::law_of_choice;
 pub use node::Node;
-pub use recording::try_record;
-pub use rules::PlainRules;
-pub use taking::take_frame;
-pub use turn::take_turn;

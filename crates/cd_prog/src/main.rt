@@ -1,4 +1,4 @@
-//! The program `cdnode`: the node on the journal of the current folder, standard input and standard output.
+//! The program `cdnode`: the node on the journal and the files of the current folder, standard input and standard output.
 #![tactic(auto)]
 
 mod clock;
@@ -8,6 +8,7 @@ mod streams;
 
 use crate::clock::SystemClock;
 use crate::disk::FileDisk;
+use crate::files::SystemFiles;
 use crate::streams::{StandardInput, StandardOutput};
 use cd_cli::{Status, run_node};
 use cd_outside::Beat;
@@ -38,6 +39,7 @@ fn run(rt: HostRuntime) -> Result<Status, NoMemory> {
         words.push(word.as_str())?;
     }
     let mut journal = FileDisk::new(rt, JOURNAL);
+    let mut files = SystemFiles::new(rt);
     let mut clock = SystemClock::new(rt);
     let mut input = StandardInput::new(rt.reader());
     let mut out = StandardOutput::new(rt);
@@ -46,6 +48,7 @@ fn run(rt: HostRuntime) -> Result<Status, NoMemory> {
         rt.alloc(),
         &words,
         &mut journal,
+        &mut files,
         &mut clock,
         &mut input,
         &mut out,

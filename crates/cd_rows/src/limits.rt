@@ -83,17 +83,23 @@ fn push_of(alloc: Global, count: usize) -> Result<Vec<u8>, AllocError> {
     Ok(text)
 }
 
+// As it stands in the command, and in a file.
 #[test]
 fn a_process_text_is_at_its_limit(rt: HostRuntime) -> Result<(), Fail> {
     for (count, line) in [
         (65_536, b"PROCESS 1 SUBMITTED\n".as_slice()),
         (65_537, b"REFUSED TEXT TooLong 65537\n"),
     ] {
+        let text = push_of(rt.alloc(), count)?;
         let mut command = Vec::from_slice(rt.alloc(), b"submit ")?;
-        command.extend_from_slice(&push_of(rt.alloc(), count)?)?;
+        command.extend_from_slice(&text)?;
         command.push(b';')?;
         let mut machine = Machine::new(rt.alloc(), NAMED)?;
         let ran = machine.run(&command)?;
+        assert_eq!(rt; ran.out.bytes(), line);
+        let mut machine = Machine::new(rt.alloc(), NAMED)?;
+        machine.put(b"p", &text)?;
+        let ran = machine.run(b"submit file=p;")?;
         assert_eq!(rt; ran.out.bytes(), line);
     }
     Ok(())

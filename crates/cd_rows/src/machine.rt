@@ -5,18 +5,19 @@ ghost use Rattle.cd_memory.specs.MemoryDisk.{state_of};
 
 use cd_cli::{Status, run_node};
 use cd_journal::Journal;
-use cd_memory::{FaultScript, MemoryClock, MemoryDisk, MemorySink, MemorySource};
+use cd_memory::{FaultScript, MemoryClock, MemoryDisk, MemoryFiles, MemorySink, MemorySource};
 use cd_outside::{Beat, Sink, Source};
 use cd_types::Moment;
 use std::alloc::Global;
 use std::process::Abort;
 use std::test::Fail;
 
-/// A disk in memory, on which the node may run more than once.
+/// A disk and files in memory, on which the node may run more than once.
 #[derive(Drop)]
 pub struct Machine {
     alloc: Global,
     disk: MemoryDisk,
+    files: MemoryFiles,
     beat: Beat,
     ghost order: { last_of (state_of disk).calls ≤ beat },
 }
@@ -40,9 +41,11 @@ impl Machine {
     pub fn new(alloc: Global, bytes: &[u8]) -> Result<Self, Fail> {
         let mut disk = MemoryDisk::new(alloc, FaultScript::new(Vec::new(alloc)))?;
         disk.put(bytes)?;
+        let files = MemoryFiles::new(alloc, FaultScript::new(Vec::new(alloc)))?;
         Ok(Machine {
             alloc,
             disk,
+            files,
             beat: Beat::new(),
         })
     }
@@ -50,6 +53,17 @@ impl Machine {
     /// The bytes on the disk.
     pub fn bytes(&self) -> &[u8] {
         self.disk.bytes()
+    }
+
+    /// Puts a file with these bytes.
+    pub fn put(&mut self, name: &[u8], bytes: &[u8]) -> Result<(), Fail> {
+        self.files.put(name, bytes)?;
+        Ok(())
+    }
+
+    /// The bytes of a file.
+    pub fn file(&self, name: &[u8]) -> Option<&[u8]> {
+        self.files.get(name)
     }
 
     /// The k-th next call of the disk fails.
@@ -86,6 +100,7 @@ impl Machine {
             self.alloc,
             words,
             &mut self.disk,
+            &mut self.files,
             &mut clock,
             input,
             out,

@@ -1,9 +1,10 @@
 //! Whole runs: what they write, how they end, and what they leave on the disk.
 use crate::machine::Machine;
-use crate::worked::{FIRST, INIT, JOURNAL, NAMED, SUBMIT};
+use crate::worked::{FILE, FIRST, FROM_FILE, INIT, JOURNAL, NAMED, SUBMIT};
 use cd_cli::{Status, run_node};
 use cd_memory::{
-    FaultScript, MemorySink, MemorySource, SteadyClock, SteadyDisk, SteadySink, SteadySource,
+    FaultScript, MemorySink, MemorySource, SteadyClock, SteadyDisk, SteadyFiles, SteadySink,
+    SteadySource,
 };
 use cd_outside::Beat;
 use cd_types::Moment;
@@ -30,17 +31,36 @@ fn the_first_commands(rt: HostRuntime) -> Result<(), Fail> {
     Ok(())
 }
 
+// The Process stands in a file, which is left as it was.
+#[test]
+fn a_process_in_a_file(rt: HostRuntime) -> Result<(), Fail> {
+    let mut machine = Machine::new(rt.alloc(), b"")?;
+    machine.put(b"p1.cd", FILE)?;
+    let ran = machine.run(FROM_FILE)?;
+    assert_eq!(rt;
+        ran.out.bytes(),
+        b"HOME ALPHA 17\nPROCESS 1 SUBMITTED\nSTOPPED\n".as_slice()
+    );
+    assert_eq!(rt; ran.status, Status::Done);
+    assert_eq!(rt; machine.bytes(), JOURNAL);
+    assert_eq!(rt; machine.file(b"p1.cd"), Some(FILE));
+    Ok(())
+}
+
 // The same over devices that never fail within their room.
 #[test]
 fn the_first_commands_on_steady_devices(rt: HostRuntime) -> Result<(), Fail> {
     let alloc = rt.alloc();
     let mut disk = SteadyDisk::new(alloc)?;
     disk.room(20, 1000)?;
+    let mut files = SteadyFiles::new(alloc)?;
+    files.put(b"p1.cd", FILE)?;
+    files.room(2, 0)?;
     let mut clock = SteadyClock::new(alloc)?;
     clock.set(Moment::new(1_709_287_200).ok_or("no moment")?);
     let mut input = SteadySource::new(alloc)?;
     input.room(2, 200)?;
-    input.feed(FIRST)?;
+    input.feed(FROM_FILE)?;
     let mut out = SteadySink::new(alloc)?;
     out.room(4, 100)?;
     let mut beat = Beat::new();
@@ -48,6 +68,7 @@ fn the_first_commands_on_steady_devices(rt: HostRuntime) -> Result<(), Fail> {
         alloc,
         &[],
         &mut disk,
+        &mut files,
         &mut clock,
         &mut input,
         &mut out,

@@ -11,6 +11,12 @@ pub const SUBMIT: &[u8] =
 pub const FIRST: &[u8] =
     b"init name=ALPHA home=17;\nsubmit P1 PROCESS SNODE=BETA\nS1 COPY FROM (FILE=a.txt) TO (FILE=b.txt)\nPEND;\nstop;\n";
 
+/// The Process's text, as a file has it.
+pub const FILE: &[u8] = b"P1 PROCESS SNODE=BETA\nS1 COPY FROM (FILE=a.txt) TO (FILE=b.txt)\nPEND\n";
+
+/// Both with the Process in a file, and then the run ends.
+pub const FROM_FILE: &[u8] = b"init name=ALPHA home=17;\nsubmit file=p1.cd;\nstop;\n";
+
 /// The body of the entry that names the home, of 15 bytes.
 pub const HOME: &[u8] = b"\x01\x05ALPHA\0\0\0\0\0\0\0\x11";
 

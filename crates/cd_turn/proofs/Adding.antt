@@ -185,5 +185,9 @@ pub added_may : (entries : List Entry) (now : ℕ) (wanted : Order) (e : Entry) 
 added_may entries now (order.Wrong name at) e legal form h = absurd cc
 added_may entries now order.NotBuilt e legal form h = absurd cc
 added_may entries now order.Stop e legal form h = absurd cc
+added_may entries now order.SubmitNotBuilt e legal form h = absurd cc
+added_may entries now (order.SubmitUnread why) e legal form h = absurd cc
+added_may entries now (order.View process) e legal form h = absurd cc
+added_may entries now (order.ViewUnread why) e legal form h = absurd cc
 added_may entries now (order.Init name home) e legal form h = home_may entries name home e form h
 added_may entries now (order.Submit process) e legal form h = submission_may entries now process e legal form h

@@ -18,7 +18,10 @@ use Rattle.cd_grammar.specs.Faults.{Says}
 use Rattle.cd_filing.specs.Filing.{with_options, default_interval, filed, is_push}
 use Rattle.cd_machine.specs.Ranges.{is_card}
 use Rattle.cd_reading.specs.Read.{canonical_reading}
-use Rattle.cd_turn.specs.Order.{IsKept, WasSaid, IsSaid}
+use Rattle.cd_hearing.specs.Heard.{heard}
+use Rattle.cd_hearing.specs.declared.heard.Heard.{Heard}
+use Rattle.cd_hearing.specs.declared.heard.Heard.TheVariants as said
+use Rattle.cd_turn.specs.Order.{IsKept, WasSaid, IsSaid, WasHeard}
 
 -- no command of parameters alone is a Process text's
 mapped : {A : Type 0} (x : Option A) (f : A → Command) (c : Command) → ((a : A) → f a ≡ c → ⊥) → option_map f x ≡ Some c → ⊥
@@ -98,6 +101,10 @@ command_said bytes (command.Serve sessions together turns) is = tt
 command_said bytes (command.Drill file) is = tt
 command_said bytes (command.Generate seed count) is = tt
 command_said bytes command.Stop is = tt
+
+pub heard_said : (bytes : List ℕ) (h : Heard) → h ≡ heard bytes → ((c : Command) → heard bytes ≡ said.Command c → IsCommand bytes c) → WasHeard h
+heard_said bytes (said.Command c) e law = command_said bytes c (law c (sym e))
+heard_said bytes (said.Fault name at) e law = tt
 
 -- a push that was said is kept in a form that the journal can keep
 pub kept_formed : (o : Options) (p : Process) → is_push None (with_options o p) ≡ true → is_push (Some default_interval) (filed o p) ≡ true → canonical_reading (canonical (filed o p)) ≡ Some (filed o p)

@@ -1,12 +1,12 @@
--- The text of each reply, a line.
+-- The text of each reply: a line, or the lines of a canonical text.
 use Rattle.std.specs.Prelude.{ℕ, List, [], ◌∷◌, ◌++◌, codes, Bool, true, false}
 use Rattle.std.specs.Fmt.{decimal}
 use Rattle.cd_ast.specs.declared.fault.FaultName.{FaultName}
 use Rattle.cd_ast.specs.declared.fault.FaultName.TheVariants as name
 use Rattle.cd_turn.specs.declared.reply.Reply.{Reply}
-use Rattle.cd_turn.specs.declared.reply.Reply.TheVariants.{Home, Submitted, Stopped, Refused}
+use Rattle.cd_turn.specs.declared.reply.Reply.TheVariants.{Home, Submitted, Viewed, Stopped, Refused}
 use Rattle.cd_turn.specs.declared.reply.Refusal.{Refusal}
-use Rattle.cd_turn.specs.declared.reply.Refusal.TheVariants.{Text, NotYet, NotHome, AlreadyHome, NoNode, Full}
+use Rattle.cd_turn.specs.declared.reply.Refusal.TheVariants.{Text, NotYet, NotHome, AlreadyHome, NoFile, FileFault, NoNode, Full}
 
 -- a line with this text
 abbrev pub line : List ℕ → List ℕ
@@ -39,11 +39,14 @@ refusal_text NoNode = codes "NONODE"
 refusal_text NotYet = codes "NOTYET"
 refusal_text NotHome = codes "NOTHOME"
 refusal_text AlreadyHome = codes "ALREADYHOME"
+refusal_text (NoFile name) = codes "NOFILE " ++ name
+refusal_text FileFault = codes "FILEFAULT"
 refusal_text (Full most) = codes "FULL " ++ decimal most
 
 abbrev pub reply_text : Reply → List ℕ
 reply_text (Home name home) = line (codes "HOME " ++ name ++ codes " " ++ decimal home)
 reply_text (Submitted number) = line (codes "PROCESS " ++ decimal number ++ codes " SUBMITTED")
+reply_text (Viewed text) = text
 reply_text Stopped = line (codes "STOPPED")
 reply_text (Refused refusal) = line (codes "REFUSED " ++ refusal_text refusal)
 

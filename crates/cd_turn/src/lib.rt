@@ -10,7 +10,7 @@ mod turn;
 
 pub use home::Home;
 pub use law::{law_of_homes, law_of_legality};
-pub use order::{Order, order_of};
+pub use order::{Order, hear_found, order_of, show_for};
 pub use reply::{Refusal, Reply};
 pub use status::Status;
 pub use turn::make_turn;

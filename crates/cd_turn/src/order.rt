@@ -1,9 +1,13 @@
 //! What a command asks of the node.
-ghost use Rattle.std.specs.Prelude.{◌≡◌, ℕ, List, IfOk};
+ghost use Rattle.std.specs.Prelude.{◌≡◌, ◌≤◌, ℕ, List, IfOk, IfSome};
+ghost use Rattle.cd_commands.specs.declared.command.Command.TheVariants as command;
 ghost use Rattle.cd_grammar.specs.Faults.{Says};
 ghost use Rattle.cd_hearing.specs.Heard.{heard};
 ghost use Rattle.cd_input.specs.Scanner.{event_of};
-ghost use Rattle.cd_turn.specs.Order.{are_built, submitted, order_for, order_of, told_by, IsFormed, IsSaid};
+ghost use Rattle.cd_outside.specs.Counts.{Rose};
+ghost use Rattle.cd_shown.specs.Reading.{process_in};
+ghost use Rattle.cd_shown.specs.Shown.{IsShown};
+ghost use Rattle.cd_turn.specs.Order.{are_built, kept_with, submitting, submitted, submitted_from, viewed, order_for, order_of, file_for, file_of, heard_in, asked_of, IsKept, IsFormed, IsSaid, WasSaid, WasHeard, WasRead};
 
 use cd_ast::{FaultName, Process};
 use cd_commands::{Command, Options};
@@ -11,8 +15,10 @@ use cd_filing::{filled, is_push, law_of_filings, with_options};
 use cd_hearing::{Heard, hear, law_of_hearing};
 use cd_input::Found;
 use cd_machine::law_of_ranges;
+use cd_outside::Files;
 use cd_reading::law_of_readings;
-use cd_types::{NoMemory, NodeName};
+use cd_shown::{Shown, Unread, look, process_in};
+use cd_types::{Bytes, NoMemory, NodeName, Symbols};
 use std::alloc::Global;
 
 /// The length that a command may not pass.
@@ -29,6 +35,14 @@ pub enum Order {
     Init(NodeName, u64),
     /// A Process is submitted, and kept in this form.
     Submit(Process),
+    /// The Process that a file says is submitted, and isn't of the kind that is built.
+    SubmitNotBuilt,
+    /// The Process that a file says is submitted, and there is none.
+    SubmitUnread(Unread),
+    /// The Process that a file says is looked at.
+    View(Process),
+    /// It is looked at, and there is none.
+    ViewUnread(Unread),
     Stop,
 }
 
@@ -42,68 +56,226 @@ fn are_built(options: &Options) -> bool
         && options.start.is_none()
 }
 
-/// A submission of this Process.
-fn submitted(process: Process, options: &Options) -> Order
-    ensures order { result ≡ submitted options.now process }
-    ensures formed { (text : List ℕ) (overrides : List (List ℕ × List ℕ)) → Says text overrides process → IsFormed result }
+/// The form in which this Process is kept with these options, where it is of the kind that is built.
+fn kept_with(process: Process, options: &Options) -> Option<Process>
+    ensures kept { result ≡ kept_with options.now process }
+    ensures formed { (text : List ℕ) (overrides : List (List ℕ × List ℕ)) → Says text overrides process → IfSome result IsKept }
 {
     law_of_filings();
     law_of_readings();
     law_of_ranges();
+    let process = with_options(process, options);
+    if is_push(&process, None) {
+        Some(filled(process))
+    } else {
+        None
+    }
+}
+
+/// A submission of this Process, where there is one.
+fn submitting(kept: Option<Process>, if_none: Order) -> Order
+    ensures order { result ≡ submitting if_none kept }
+    ensures formed { IfSome kept IsKept → IsFormed if_none → IsFormed result }
+{
+    match kept {
+        Some(process) => Order::Submit(process),
+        None => if_none,
+    }
+}
+
+/// A submission of this Process.
+fn submitted(process: Process, options: &Options) -> Order
+    ensures order { result ≡ submitted options.now process }
+    ensures formed { WasSaid process → IsFormed result }
+{
     if !are_built(options) {
         return Order::NotBuilt;
     }
-    let process = with_options(process, options);
-    if is_push(&process, None) {
-        Order::Submit(filled(process))
-    } else {
-        Order::NotBuilt
+    submitting(kept_with(process, options), Order::NotBuilt)
+}
+
+/// A submission of the Process that a file says.
+fn submitted_from(read: Result<Process, Unread>, options: &Options) -> Order
+    ensures order { result ≡ submitted_from options.now read }
+    ensures formed { WasRead read → IsFormed result }
+{
+    match read {
+        Ok(process) => submitting(kept_with(process, options), Order::SubmitNotBuilt),
+        Err(why) => Order::SubmitUnread(why),
     }
 }
 
-/// What a command asks.
-fn order_for(command: Command) -> Order
-    ensures order { result ≡ order_for command }
-    ensures formed { IsSaid command → IsFormed result }
+/// A look at the Process that a file says.
+fn viewed(read: Result<Process, Unread>) -> Order
+    ensures order { result ≡ viewed read }
+    ensures formed { IsFormed result }
 {
-    match command {
-        Command::Init(name, home) => {
-            let _ = name.as_bytes();
-            Order::Init(name, home)
-        }
-        Command::SubmitText(process, options) => {
-            let order = submitted(process, &options);
-            order
-        }
-        Command::Stop => Order::Stop,
-        _ => Order::NotBuilt,
+    match read {
+        Ok(process) => Order::View(process),
+        Err(why) => Order::ViewUnread(why),
     }
 }
 
-/// What the text of a command asks.
-fn order_in(alloc: Global, text: &[u8]) -> Result<Order, NoMemory>
-    ensures order { IfOk result (λ order. order ≡ order_of (heard text.now)) }
-    ensures formed { IfOk result IsFormed }
+/// The Process that a file says, by what was shown of it.
+fn read_from(
+    alloc: Global,
+    name: Bytes,
+    symbols: &Symbols,
+    shown: &Shown,
+) -> Result<Result<Process, Unread>, NoMemory>
+    ensures read { IfOk result (λ read. read ≡ process_in name symbols.now shown.now) }
+    ensures said { IfOk result WasRead }
 {
-    law_of_hearing();
-    match hear(alloc, text) {
-        Ok(Heard::Command(command)) => Ok(order_for(command)),
-        Ok(Heard::Fault(name, at)) => Ok(Order::Wrong(name, at)),
+    match process_in(alloc, name, symbols, shown) {
+        Ok(read) => Ok(read),
         Err(fault) => Err(fault),
     }
 }
 
-/// What that which came to its end in the input asks. A command that is too long and one that is cut off are none.
-pub fn order_of(alloc: Global, found: &Found) -> Result<Order, NoMemory>
-    ensures order { IfOk result (λ order. order ≡ told_by (event_of found.now)) }
+/// A submission from the file of this name.
+fn submitted_file(
+    alloc: Global,
+    name: Bytes,
+    options: &Options,
+    shown: &Shown,
+) -> Result<Order, NoMemory>
+    ensures order { IfOk result (λ order. order ≡ order_for (command.SubmitFile name options.now) shown.now) }
     ensures formed { IfOk result IsFormed }
 {
-    match found {
-        Found::Command(text) => match order_in(alloc, text) {
+    if !are_built(options) {
+        return Ok(Order::NotBuilt);
+    }
+    match read_from(alloc, name, &options.symbols, shown) {
+        Ok(read) => Ok(submitted_from(read, options)),
+        Err(fault) => Err(fault),
+    }
+}
+
+/// A look at the file of this name.
+fn viewed_file(
+    alloc: Global,
+    name: Bytes,
+    symbols: &Symbols,
+    shown: &Shown,
+) -> Result<Order, NoMemory>
+    ensures order { IfOk result (λ order. order ≡ order_for (command.View name symbols.now) shown.now) }
+    ensures formed { IfOk result IsFormed }
+{
+    match read_from(alloc, name, symbols, shown) {
+        Ok(read) => Ok(viewed(read)),
+        Err(fault) => Err(fault),
+    }
+}
+
+/// What a command asks, by what was shown of the file for which it asks.
+fn order_for(alloc: Global, command: Command, shown: &Shown) -> Result<Order, NoMemory>
+    ensures order { IfOk result (λ order. order ≡ order_for command shown.now) }
+    ensures formed { IsSaid command → IfOk result IsFormed }
+{
+    match command {
+        Command::Init(name, home) => {
+            let _ = name.as_bytes();
+            Ok(Order::Init(name, home))
+        }
+        Command::SubmitText(process, options) => {
+            let order = submitted(process, &options);
+            Ok(order)
+        }
+        Command::SubmitFile(name, options) => {
+            match submitted_file(alloc, name, &options, shown) {
+                Ok(order) => Ok(order),
+                Err(fault) => Err(fault),
+            }
+        }
+        Command::View(name, symbols) => match viewed_file(alloc, name, &symbols, shown) {
             Ok(order) => Ok(order),
             Err(fault) => Err(fault),
         },
-        Found::TooLong => Ok(Order::Wrong(FaultName::TooLong, LONGEST)),
-        Found::Unfinished => Ok(Order::Wrong(FaultName::Unfinished, 0)),
+        Command::Stop => Ok(Order::Stop),
+        _ => Ok(Order::NotBuilt),
+    }
+}
+
+/// What a command's text says.
+fn hear_text(alloc: Global, text: &[u8]) -> Result<Heard, NoMemory>
+    ensures heard { IfOk result (λ said. said ≡ heard text.now) }
+    ensures said { IfOk result WasHeard }
+{
+    law_of_hearing();
+    match hear(alloc, text) {
+        Ok(said) => Ok(said),
+        Err(fault) => Err(fault),
+    }
+}
+
+/// What that says which came to its end in the input. A command that is too long and one that is cut off say none.
+pub fn hear_found(alloc: Global, found: &Found) -> Result<Heard, NoMemory>
+    ensures heard { IfOk result (λ said. said ≡ heard_in (event_of found.now)) }
+    ensures said { IfOk result WasHeard }
+{
+    match found {
+        Found::Command(text) => match hear_text(alloc, text) {
+            Ok(said) => Ok(said),
+            Err(fault) => Err(fault),
+        },
+        Found::TooLong => Ok(Heard::Fault(FaultName::TooLong, LONGEST)),
+        Found::Unfinished => Ok(Heard::Fault(FaultName::Unfinished, 0)),
+    }
+}
+
+/// Looks at the file for which a command asks.
+fn show_command<F: Files>(
+    alloc: Global,
+    command: &Command,
+    files: &mut F,
+) -> Result<Shown, NoMemory>
+    ensures shown { F.told → IfOk result (λ shown. IsShown (asked_of (F.state files.old).shelf.seen (file_for command.now)) shown) }
+    ensures failed { IfOk result (λ shown. shown ≡ Shown.Failed → Rose (F.faults files.old) (F.faults files.new)) }
+    ensures same { F.told → F.state files.new ≡ F.state files.old }
+    ensures later { F.faults files.old ≤ F.faults files.new }
+{
+    match command {
+        Command::SubmitFile(name, options) if are_built(options) => {
+            match look(alloc, files, name.as_slice()) {
+                Ok(shown) => Ok(shown),
+                Err(fault) => Err(fault),
+            }
+        }
+        Command::View(name, _) => match look(alloc, files, name.as_slice()) {
+            Ok(shown) => Ok(shown),
+            Err(fault) => Err(fault),
+        },
+        _ => Ok(Shown::Missing),
+    }
+}
+
+/// What the files show of the file for which it asks; where it asks for none, it is as if there were none. The files are changed in
+/// nothing, and have failed only where their count rose.
+pub fn show_for<F: Files>(alloc: Global, said: &Heard, files: &mut F) -> Result<Shown, NoMemory>
+    ensures shown { F.told → IfOk result (λ shown. IsShown (asked_of (F.state files.old).shelf.seen (file_of said.now)) shown) }
+    ensures failed { IfOk result (λ shown. shown ≡ Shown.Failed → Rose (F.faults files.old) (F.faults files.new)) }
+    ensures same { F.told → F.state files.new ≡ F.state files.old }
+    ensures later { F.faults files.old ≤ F.faults files.new }
+{
+    match said {
+        Heard::Command(command) => match show_command(alloc, command, files) {
+            Ok(shown) => Ok(shown),
+            Err(fault) => Err(fault),
+        },
+        Heard::Fault(..) => Ok(Shown::Missing),
+    }
+}
+
+/// What it asks of the node, where this was shown of the file for which it asks.
+pub fn order_of(alloc: Global, said: Heard, shown: &Shown) -> Result<Order, NoMemory>
+    ensures order { IfOk result (λ order. order ≡ order_of said shown.now) }
+    ensures formed { WasHeard said → IfOk result IsFormed }
+{
+    match said {
+        Heard::Command(command) => match order_for(alloc, command, shown) {
+            Ok(order) => Ok(order),
+            Err(fault) => Err(fault),
+        },
+        Heard::Fault(name, at) => Ok(Order::Wrong(name, at)),
     }
 }

@@ -1,13 +1,13 @@
 //! What the node answers to a command.
-ghost use Rattle.std.specs.Prelude.{◌≡◌, IfOk, string_bytes};
+ghost use Rattle.std.specs.Prelude.{◌≡◌, IfOk};
 ghost use Rattle.cd_turn.specs.Reply.{reply_text, fault_word, refusal_text, is_refused};
 
 use cd_ast::FaultName;
-use cd_types::{NoMemory, NodeName, ProcNo};
+use cd_types::{Bytes, NoMemory, NodeName, ProcNo};
 use std::alloc::Global;
 
 /// Why a command wasn't done. It then changed nothing.
-#[derive(Clone, Copy, Debug, PartialEq, Eq)]
+#[derive(Debug, Drop)]
 pub enum Refusal {
     /// Its text, or the text of its Process, has this fault at this place.
     Text(FaultName, u64),
@@ -17,19 +17,25 @@ pub enum Refusal {
     NotHome,
     /// The home has a name already.
     AlreadyHome,
+    /// There is no file of this name.
+    NoFile(Bytes),
+    /// The files failed.
+    FileFault,
     /// Neither the Process nor the command names a partner.
     NoNode,
     /// There are as many live Processes as there may be, which is this many.
     Full(u32),
 }
 
-/// The answer to a command. Each is printed as a line.
-#[derive(Clone, Copy, Debug, PartialEq, Eq)]
+/// The answer to a command. Each is printed as a line, but for a canonical text, which has its own.
+#[derive(Debug, Drop)]
 pub enum Reply {
     /// The home has this name and this number from now on.
     Home(NodeName, u64),
     /// The Process was submitted, and has this number for good.
     Submitted(ProcNo),
+    /// A Process has this canonical text.
+    Viewed(Bytes),
     /// The run ends.
     Stopped,
     /// The command wasn't done.
@@ -73,36 +79,52 @@ fn fault_word(name: FaultName) -> &'static str
     }
 }
 
-fn fault_text(alloc: Global, name: FaultName, at: u64) -> Result<String, NoMemory>
-    ensures { IfOk result (λ text. string_bytes text ≡ refusal_text (Refusal.Text name at)) }
+fn fault_text(alloc: Global, name: FaultName, at: u64) -> Result<Vec<u8>, NoMemory>
+    ensures { IfOk result (λ text. text.items ≡ refusal_text (Refusal.Text name at)) }
 {
     let word = fault_word(name);
     let text = format!(in alloc; "TEXT {word} {at}")?;
+    Ok(Vec::from_slice(alloc, text.as_bytes())?)
+}
+
+fn no_file_text(alloc: Global, name: &[u8]) -> Result<Vec<u8>, NoMemory>
+    ensures { IfOk result (λ text. text.items ≡ refusal_text (Refusal.NoFile name.now)) }
+{
+    let mut text = Vec::from_slice(alloc, b"NOFILE ")?;
+    text.extend_from_slice(name)?;
     Ok(text)
 }
 
+fn full_text(alloc: Global, most: u32) -> Result<Vec<u8>, NoMemory>
+    ensures { IfOk result (λ text. text.items ≡ refusal_text (Refusal.Full most)) }
+{
+    let text = format!(in alloc; "FULL {most}")?;
+    Ok(Vec::from_slice(alloc, text.as_bytes())?)
+}
+
 impl Refusal {
-    fn text(self, alloc: Global) -> Result<String, NoMemory>
-        ensures { IfOk result (λ text. string_bytes text ≡ refusal_text self) }
+    fn text(&self, alloc: Global) -> Result<Vec<u8>, NoMemory>
+        ensures { IfOk result (λ text. text.items ≡ refusal_text self.now) }
     {
-        let text = match self {
-            Refusal::Text(name, at) => fault_text(alloc, name, at)?,
-            Refusal::NoNode => String::from_str(alloc, "NONODE")?,
-            Refusal::NotYet => String::from_str(alloc, "NOTYET")?,
-            Refusal::NotHome => String::from_str(alloc, "NOTHOME")?,
-            Refusal::AlreadyHome => String::from_str(alloc, "ALREADYHOME")?,
-            Refusal::Full(most) => format!(in alloc; "FULL {most}")?,
-        };
-        Ok(text)
+        match self {
+            Refusal::Text(name, at) => fault_text(alloc, *name, *at),
+            Refusal::NoFile(name) => no_file_text(alloc, name.as_slice()),
+            Refusal::FileFault => Ok(Vec::from_slice(alloc, b"FILEFAULT")?),
+            Refusal::NoNode => Ok(Vec::from_slice(alloc, b"NONODE")?),
+            Refusal::NotYet => Ok(Vec::from_slice(alloc, b"NOTYET")?),
+            Refusal::NotHome => Ok(Vec::from_slice(alloc, b"NOTHOME")?),
+            Refusal::AlreadyHome => Ok(Vec::from_slice(alloc, b"ALREADYHOME")?),
+            Refusal::Full(most) => full_text(alloc, *most),
+        }
     }
 }
 
-fn refused_text(alloc: Global, refusal: Refusal) -> Result<Vec<u8>, NoMemory>
-    ensures { IfOk result (λ text. text.items ≡ reply_text (Reply.Refused refusal)) }
+fn refused_text(alloc: Global, refusal: &Refusal) -> Result<Vec<u8>, NoMemory>
+    ensures { IfOk result (λ text. text.items ≡ reply_text (Reply.Refused refusal.now)) }
 {
     let why = refusal.text(alloc)?;
     let mut text = Vec::from_slice(alloc, b"REFUSED ")?;
-    text.extend_from_slice(why.as_bytes())?;
+    text.extend_from_slice(&why)?;
     text.push(b'\n')?;
     Ok(text)
 }
@@ -115,22 +137,26 @@ fn submitted_text(alloc: Global, number: u32) -> Result<Vec<u8>, NoMemory>
 }
 
 impl Reply {
-    /// Its line.
-    pub fn text(self, alloc: Global) -> Result<Vec<u8>, NoMemory>
-        ensures { IfOk result (λ text. text.items ≡ reply_text self) }
+    /// Its line, or its lines.
+    pub fn text(&self, alloc: Global) -> Result<Vec<u8>, NoMemory>
+        ensures { IfOk result (λ text. text.items ≡ reply_text self.now) }
     {
         match self {
-            Reply::Home(name, home) => home_text(alloc, name, home),
+            Reply::Home(name, home) => home_text(alloc, *name, *home),
             Reply::Submitted(number) => submitted_text(alloc, number.number()),
+            Reply::Viewed(text) => Ok(Vec::from_slice(alloc, text.as_slice())?),
             Reply::Stopped => Ok(Vec::from_slice(alloc, b"STOPPED\n")?),
             Reply::Refused(refusal) => refused_text(alloc, refusal),
         }
     }
 
     /// The command was refused.
-    pub fn is_refused(self) -> bool
-        ensures { result ≡ is_refused self }
+    pub fn is_refused(&self) -> bool
+        ensures { result ≡ is_refused self.now }
     {
-        matches!(self, Reply::Refused(_))
+        match self {
+            Reply::Refused(_) => true,
+            _ => false,
+        }
     }
 }

@@ -5,6 +5,7 @@ ghost use Rattle.cd_outside.specs.Disk.{last_of, LeftAt};
 ghost use Rattle.cd_outside.specs.Moments.{Moments};
 ghost use Rattle.cd_outside.specs.Streams.{TookFront};
 ghost use Rattle.cd_journal.specs.Fault.{OnDisk, IfFull, IfUnfit};
+ghost use Rattle.cd_ast.specs.Canonical.{canonical};
 ghost use Rattle.cd_entries.specs.Entry.{entry_bytes, IsEntry, IsWritable};
 ghost use Rattle.cd_turn.specs.Entries.{submitted_in};
 ghost use Rattle.cd_turn.specs.Home.{IsHome, HasKept};
@@ -12,7 +13,7 @@ ghost use Rattle.cd_turn.specs.Legal.{IsLegal, IsNext};
 ghost use Rattle.cd_turn.specs.Order.{IsFormed};
 ghost use Rattle.cd_turn.specs.Reply.{reply_text};
 ghost use Rattle.cd_turn.specs.Ends.{MayLeave, journal_length, FitsBehind, HasReason, TookAtEnd};
-ghost use Rattle.cd_turn.specs.Turn.{is_named, room_answer, partner_answer, submission_answer, answer, submission, submission_with, added, MayKeep};
+ghost use Rattle.cd_turn.specs.Turn.{is_named, room_answer, partner_answer, submission_answer, refusal_for, named_answer, answer, submission, submission_with, added, MayKeep};
 
 use crate::home::{Home, MOST_LIVE, card_for};
 use crate::order::Order;
@@ -22,6 +23,7 @@ use cd_ast::{Process, print};
 use cd_entries::Entry;
 use cd_journal::JournalFault;
 use cd_outside::{Beat, Disk, Sink};
+use cd_shown::Unread;
 use cd_types::{Bytes, Moment, NoMemory, NodeName, ProcNo};
 use std::alloc::Global;
 
@@ -63,32 +65,65 @@ fn submission_reply(home: &Home, process: &Process) -> Reply
     }
 }
 
-/// What an order is answered.
-fn reply_to(home: &Home, wanted: &Order) -> Reply
-    requires { IsLegal home.now.entries }
-    ensures { result ≡ answer home.now.entries wanted.now }
+// Why there is no Process, as it is told.
+fn refusal_for(alloc: Global, why: &Unread) -> Result<Refusal, NoMemory>
+    ensures { IfOk result (λ refusal. refusal ≡ refusal_for why.now) }
 {
-    match wanted {
-        Order::Wrong(name, at) => Reply::Refused(Refusal::Text(*name, *at)),
-        Order::NotBuilt => Reply::Refused(Refusal::NotYet),
-        Order::Stop => Reply::Stopped,
-        Order::Init(name, number) => {
-            if is_named(home.entries()) {
-                Reply::Refused(Refusal::AlreadyHome)
-            } else {
-                Reply::Home(*name, *number)
-            }
-        }
-        Order::Submit(process) => submission_reply(home, process),
+    match why {
+        Unread::NoFile(name) => Ok(Refusal::NoFile(Bytes::copy_of(alloc, name.as_slice())?)),
+        Unread::FileFault => Ok(Refusal::FileFault),
+        Unread::Wrong(name, at) => Ok(Refusal::Text(*name, *at)),
     }
 }
 
-// The line of that answer.
-fn line_of(alloc: Global, home: &Home, wanted: &Order) -> Result<Vec<u8>, NoMemory>
-    requires { IsLegal home.now.entries }
-    ensures { IfOk result (λ text. text.items ≡ reply_text (answer home.now.entries wanted.now)) }
+// What a submission is answered that is refused for this.
+fn named_reply(home: &Home, refusal: Refusal) -> Reply
+    ensures { result ≡ named_answer home.now.entries refusal }
 {
-    reply_to(home, wanted).text(alloc)
+    if is_named(home.entries()) {
+        Reply::Refused(refusal)
+    } else {
+        Reply::Refused(Refusal::NotHome)
+    }
+}
+
+// What a look at a Process is answered.
+fn view_reply(alloc: Global, process: &Process) -> Result<Reply, NoMemory>
+    ensures { IfOk result (λ reply. reply ≡ Reply.Viewed (canonical process.now)) }
+{
+    let text = print(alloc, process)?;
+    Ok(Reply::Viewed(Bytes::new(text)))
+}
+
+fn init_reply(home: &Home, name: NodeName, number: u64) -> Reply
+    ensures { result ≡ answer home.now.entries (Order.Init name number) }
+{
+    if is_named(home.entries()) {
+        Reply::Refused(Refusal::AlreadyHome)
+    } else {
+        Reply::Home(name, number)
+    }
+}
+
+/// What an order is answered.
+fn reply_to(alloc: Global, home: &Home, wanted: &Order) -> Result<Reply, NoMemory>
+    requires { IsLegal home.now.entries }
+    ensures { IfOk result (λ reply. reply ≡ answer home.now.entries wanted.now) }
+{
+    match wanted {
+        Order::Wrong(name, at) => Ok(Reply::Refused(Refusal::Text(*name, *at))),
+        Order::NotBuilt => Ok(Reply::Refused(Refusal::NotYet)),
+        Order::Stop => Ok(Reply::Stopped),
+        Order::Init(name, number) => Ok(init_reply(home, *name, *number)),
+        Order::Submit(process) => Ok(submission_reply(home, process)),
+        Order::SubmitNotBuilt => Ok(named_reply(home, Refusal::NotYet)),
+        Order::SubmitUnread(why) => Ok(named_reply(home, refusal_for(alloc, why)?)),
+        Order::View(process) => match view_reply(alloc, process) {
+            Ok(reply) => Ok(reply),
+            Err(fault) => Err(fault),
+        },
+        Order::ViewUnread(why) => Ok(Reply::Refused(refusal_for(alloc, why)?)),
+    }
 }
 
 // The entry of a submission.
@@ -139,7 +174,13 @@ fn entry_for(
     ensures { IfOk result (λ e. e ≡ added home.now.entries now wanted.now) }
 {
     match wanted {
-        Order::Wrong(..) | Order::NotBuilt | Order::Stop => Ok(None),
+        Order::Wrong(..)
+        | Order::NotBuilt
+        | Order::SubmitNotBuilt
+        | Order::SubmitUnread(_)
+        | Order::View(_)
+        | Order::ViewUnread(_)
+        | Order::Stop => Ok(None),
         Order::Init(name, number) => {
             if is_named(home.entries()) {
                 Ok(None)
@@ -323,10 +364,12 @@ pub fn make_turn<P: Disk, O: Sink>(
     ensures later { P.faults journal.old ≤ P.faults journal.new }
     ensures later_out { O.faults out.old ≤ O.faults out.new }
 {
-    let Ok(text) = line_of(alloc, home, wanted) else {
+    let Ok(reply) = reply_to(alloc, home, wanted) else {
         return Err(Status::NoMemory);
     };
-    let reply = reply_to(home, wanted);
+    let Ok(text) = reply.text(alloc) else {
+        return Err(Status::NoMemory);
+    };
     match keep_added(alloc, home, wanted, now, journal, beat) {
         Ok(()) => {}
         Err(status) => return Err(status),

@@ -2,6 +2,7 @@ use Rattle.std.proofs.Common.{◌≡◌, ◌⊎◌, inl, inr, [], ℕ, ◌≤◌
 use Rattle.cd_outside.specs.Counts.{Rose}
 use Rattle.cd_journal.specs.Bytes.{list_of}
 use Rattle.cd_turn.specs.Home.{IsUnfit}
+use Rattle.cd_cli.specs.Told.{GoesBy}
 use Rattle.cd_cli.proofs.Acknowledging.{keeps_number}
 use Rattle.cd_cli.proofs.Going.{ended_weaker, rose_since}
 use Rattle.cd_cli.proofs.Halting.{ran_fresh}
@@ -16,20 +17,20 @@ returns-clause-came g c =
     let entries = c.in-Ok.home.entries in
     let now = g.P.Disk.state c.serve.new.journal in
     let ran =
-    ran_fresh (before.seen ≡ []) (opened.seen ≡ []) g.P.Disk.told g.C.Clock.told g.S.Source.told g.O.Sink.told (g.C.Clock.moment c.args.clock.now) entries (g.O.Sink.taken c.args.out.now) (g.S.Source.remaining c.args.input.now) (g.S.Source.remaining c.serve.new.input)
+    ran_fresh (before.seen ≡ []) (opened.seen ≡ []) g.P.Disk.told g.S.Source.told g.O.Sink.told (GoesBy g.C.Clock.told g.F.Files.told (g.C.Clock.moment c.args.clock.now) (g.F.Files.state c.args.files.now).shelf.seen (Rose (g.F.Files.faults c.args.files.now) (g.F.Files.faults c.serve.new.files))) entries (g.O.Sink.taken c.args.out.now) (g.S.Source.remaining c.args.input.now) (g.S.Source.remaining c.serve.new.input)
     now (g.O.Sink.taken c.serve.new.out) c.serve.result (λ told none. sym (c.in-Ok.ensures.same told) ∙ none) c.serve.ensures.ran in
     inr (record {
       entries = entries;
       stood = λ told. ap list_of (sym (c.in-Ok.ensures.same told)) ∙ (c.in-Ok.ensures.home told).list;
       legal = c.in-Ok.ensures.legal;
       ran = ran;
-      acknowledged = keeps_number (before.seen ≡ []) g.P.Disk.told g.C.Clock.told g.S.Source.told g.O.Sink.told (g.C.Clock.moment c.args.clock.now) entries (g.O.Sink.taken c.args.out.now) (g.S.Source.remaining c.args.input.now)
+      acknowledged = keeps_number (before.seen ≡ []) g.P.Disk.told g.S.Source.told g.O.Sink.told (GoesBy g.C.Clock.told g.F.Files.told (g.C.Clock.moment c.args.clock.now) (g.F.Files.state c.args.files.now).shelf.seen (Rose (g.F.Files.faults c.args.files.now) (g.F.Files.faults c.serve.new.files))) entries (g.O.Sink.taken c.args.out.now) (g.S.Source.remaining c.args.input.now)
           (g.S.Source.remaining c.serve.new.input) now (g.O.Sink.taken c.serve.new.out) c.serve.result ran;
     })
 
 pub returns-clause-moments : goal.returns-clause-moments
 returns-clause-moments g c = λ told.
-    run_moments (g.P.Disk.state c.args.journal.now) (g.P.Disk.state c.open.new.disk) (g.P.Disk.state c.serve.new.journal) c.args.beat.now c.open.new.beat g.C.Clock.told g.S.Source.told (g.C.Clock.moment c.args.clock.now) (g.S.Source.remaining c.args.input.now) c.in-Ok.home
+    run_moments (g.P.Disk.state c.args.journal.now) (g.P.Disk.state c.open.new.disk) (g.P.Disk.state c.serve.new.journal) c.args.beat.now c.open.new.beat g.S.Source.told (GoesBy g.C.Clock.told g.F.Files.told (g.C.Clock.moment c.args.clock.now) (g.F.Files.state c.args.files.now).shelf.seen (Rose (g.F.Files.faults c.args.files.now) (g.F.Files.faults c.serve.new.files))) (g.S.Source.remaining c.args.input.now) c.in-Ok.home
     (c.in-Ok.ensures.home told) (c.in-Ok.ensures.same told) c.in-Ok.ensures.beat (c.in-Ok.ensures.moments told) (c.serve.ensures.moments told)
 
 pub returns-clause-reason : goal.returns-clause-reason

@@ -8,7 +8,8 @@ use Rattle.cd_deeds.specs.declared.fault.Fault.TheVariants as fault
 use Rattle.cd_parts.specs.Desk.{desk_of}
 use Rattle.cd_parts.specs.Single.{keeps_none}
 use Rattle.cd_plain.proofs.Greeting.{chosen_allowed, chosen_none, chosen_fault, chosen_shelf, chosen_cut_shelf, done_same, cut_same, not_of_disk}
-use Rattle.cd_plain.proofs.Taken.{cut_taken, done_given, cut_given}
+use Rattle.cd_handling.proofs.Taken.{cut_taken}
+use Rattle.cd_plain.proofs.Giving.{done_given, cut_given}
 use Rattle.cd_plain.proofs.choosing.greet.Goals as goal
 
 pub perform-requires-clause-allowed : goal.perform-requires-clause-allowed

@@ -8,7 +8,7 @@ use Rattle.cd_deeds.specs.declared.fault.Fault.TheVariants as fault
 use Rattle.cd_parts.specs.Desk.{desk_of}
 use Rattle.cd_plain.specs.Choice.{WasConnected, WasLost, WasChosen}
 use Rattle.cd_plain.specs.Turned.{told}
-use Rattle.cd_plain.proofs.Coming.{later_rose}
+use Rattle.cd_handling.proofs.Coming.{later_rose}
 use Rattle.cd_plain.proofs.Greeting.{retold, recut, some_is}
 use Rattle.cd_plain.proofs.Places.{newest_of, rising_later, read_same}
 use Rattle.cd_plain.proofs.node.Node.choose.Goals as goal

@@ -11,14 +11,14 @@ use Rattle.cd_deeds.specs.declared.fault.Fault.{Fault}
 use Rattle.cd_deeds.specs.declared.fault.Fault.TheVariants as fault
 use Rattle.cd_node.specs.declared.session.Session.{Session}
 use Rattle.cd_plain.specs.Crash.{LeaveLeaves}
-use Rattle.cd_plain.specs.Handling.{DidEnd, EndStopped}
+use Rattle.cd_handling.specs.Handling.{DidEnd, EndStopped}
 use Rattle.cd_plain.specs.NodeState.{NodeState, HasSessions, IsReady}
-use Rattle.cd_plain.specs.Setting.{setting_of}
+use Rattle.cd_handling.specs.Setting.{setting_of}
 use Rattle.cd_plain.specs.Turned.{place_of, told, WasLeft, FailedLeaving}
 use Rattle.cd_plain.specs.declared.handled.Handled.TheVariants as handled
 use Rattle.cd_plain.proofs.Places.{found, rising_at}
-use Rattle.cd_plain.proofs.Taken.{ended_taken, ended_then}
-use Rattle.cd_plain.proofs.Turning.{swapped_back, sessions_left}
+use Rattle.cd_handling.proofs.Taken.{ended_taken, ended_then}
+use Rattle.cd_plain.proofs.AfterTurn.{swapped_back, sessions_left}
 use Rattle.cd_plain.proofs.node.Node.leave.Goals as goal
 
 pub on_end-ending-requires-clause-from : goal.on_end-ending-requires-clause-from

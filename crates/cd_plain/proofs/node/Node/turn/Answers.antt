@@ -8,13 +8,13 @@ use Rattle.cd_deeds.specs.declared.fault.Fault.TheVariants as fault
 use Rattle.cd_node.specs.declared.session.Session.{Session}
 use Rattle.cd_plain.specs.Crash.{NodeLeaves}
 use Rattle.cd_plain.specs.NodeState.{NodeState, HasSessions, IsReady}
-use Rattle.cd_plain.specs.Setting.{setting_of}
+use Rattle.cd_handling.specs.Setting.{setting_of}
 use Rattle.cd_plain.specs.Turned.{place_of, told, HadTurn, FailedTurn}
 use Rattle.cd_plain.specs.declared.handled.Handled.{Handled}
-use Rattle.cd_plain.proofs.Coming.{lost_later}
+use Rattle.cd_handling.proofs.Coming.{lost_later}
 use Rattle.cd_plain.proofs.Places.{found, rising_at}
-use Rattle.cd_plain.proofs.Taken.{turn_then}
-use Rattle.cd_plain.proofs.Turning.{swapped_back, had_turn, failed_turn, node_leaves, sessions_turned}
+use Rattle.cd_handling.proofs.Taken.{turn_then}
+use Rattle.cd_plain.proofs.AfterTurn.{swapped_back, had_turn, failed_turn, node_leaves, sessions_turned}
 use Rattle.cd_plain.proofs.node.Node.turn.Goals as goal
 
 pub take_turn-ending-requires-clause-from : goal.take_turn-ending-requires-clause-from

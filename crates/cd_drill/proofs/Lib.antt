@@ -1,0 +1,6 @@
+pub mod Begun
+pub mod Filed
+pub mod Joined
+pub mod Lists
+pub mod Turns
+pub mod Whole

@@ -1,0 +1,9 @@
+pub mod AtRest
+pub mod Commanded
+pub mod Course
+pub mod Drilled
+pub mod Kept
+pub mod Linking
+pub mod Pairs
+pub mod Replies
+pub mod Report

@@ -1,0 +1,5 @@
+pub mod Coming
+mod Crashing
+mod Formed
+mod Recorded
+pub mod Taken

@@ -1,0 +1,5 @@
+pub mod Arriving
+pub mod Crash
+pub mod Handling
+pub mod Setting
+pub mod Turn
