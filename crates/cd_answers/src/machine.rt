@@ -49,6 +49,15 @@ impl Machine {
         self.files.put(name, bytes)
     }
 
+    /// Puts a line behind what the file of this name holds.
+    pub fn put_line(&mut self, name: &[u8], line: &[u8]) -> Result<(), NoMemory> {
+        let held = self.files.get(name).unwrap_or(b"");
+        let mut bytes = Vec::from_slice(self.alloc, held)?;
+        bytes.extend_from_slice(line)?;
+        bytes.push(b'\n')?;
+        self.files.put(name, &bytes)
+    }
+
     /// The k-th next call of the files fails.
     pub fn fail(&mut self, k: u64) -> Result<(), NoMemory> {
         self.files.fail(k)

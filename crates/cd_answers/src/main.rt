@@ -1,7 +1,7 @@
 //! Says what a node answers, and no part of the node: its input is texts, each but the last with a line `%%` behind it, and its
 //! output has the answers to each and a line `%%`. The first line of a text is the home of a run over devices in memory, `BLANK`
-//! or `ALPHA`. Lines behind it may put files: `text NAME REST` one of this name that holds REST, and `fail K` has the K-th next call
-//! of the files fail. What follows is the input of the run. An answer is the output of the run, and a line with its exit status
+//! or `ALPHA`. Lines behind it may put files: `text NAME REST` one of this name that holds REST, and `line NAME REST` the line REST
+//! behind what it holds; `fail K` has the K-th next call of the files fail. What follows is the input of the run. An answer is the output of the run, and a line with its exit status
 //! and the length of the journal that it leaves, in bytes.
 #![tactic(auto)]
 
@@ -19,11 +19,24 @@ const BETWEEN: &str = "\n%%\n";
 /// Names the home ALPHA.
 const INIT: &[u8] = b"init name=ALPHA home=17;";
 
-// Puts the file of a line, or has a call fail. A line that asks for neither is left.
-fn prepared(machine: &mut Machine, line: &str) -> Result<bool, NoMemory> {
+// Puts what a line puts into a file. A line that puts nothing is left.
+fn has_put(machine: &mut Machine, line: &str) -> Result<bool, NoMemory> {
     if let Some(file) = line.strip_prefix("text ") {
         let (name, text) = file.split_once(" ").unwrap_or((file, ""));
         machine.put(name.as_bytes(), text.as_bytes())?;
+        return Ok(true);
+    }
+    if let Some(file) = line.strip_prefix("line ") {
+        let (name, text) = file.split_once(" ").unwrap_or((file, ""));
+        machine.put_line(name.as_bytes(), text.as_bytes())?;
+        return Ok(true);
+    }
+    Ok(false)
+}
+
+// Puts the file of a line, or has a call fail. A line that asks for neither is left.
+fn prepared(machine: &mut Machine, line: &str) -> Result<bool, NoMemory> {
+    if has_put(machine, line)? {
         return Ok(true);
     }
     let Some(digits) = line.strip_prefix("fail ") else {

@@ -1,8 +1,8 @@
 -- Where no device fails, a run does all of its input; where the journal is none, it is turned away.
 use Rattle.std.proofs.Common.{◌≡◌, ◌⊎◌, inl, inr, ⊎_elim, ℕ, ◌+◌, ◌^◌, ◌<◌, ◌≤◌, cond, Bool, true, false, List, [], ◌∷◌, ◌++◌, length, map, Option, Some, None, option_to_list, refl, sym, ap, subst, ◌∙◌, arith}
 use Rattle.std.specs.Prelude.{All}
-use Rattle.std.proofs.lemmas.List.{append-nil, map-append}
-use Rattle.std.proofs.lemmas.List.Elements.{All-nil, All-cons, All-head, All-tail}
+use Rattle.std.proofs.lemmas.List.{append-nil}
+use Rattle.std.proofs.lemmas.List.Elements.{All-nil, All-cons, All-head, All-tail, All-weaker}
 use Rattle.cd_outside.specs.Disk.{DiskState}
 use Rattle.cd_outside.specs.Streams.{TookFront}
 use Rattle.cd_entries.specs.declared.entry.Entry.{Entry}
@@ -12,17 +12,25 @@ use Rattle.cd_turn.specs.Ends.{journal_length, FitsBehind, IsFull}
 use Rattle.cd_turn.specs.Home.{StandsFor, IsFit, IsUnfit}
 use Rattle.cd_turn.specs.Legal.{IsLegal}
 use Rattle.cd_turn.specs.Status.{last_line}
-use Rattle.cd_shown.specs.Shown.{show}
+use Rattle.cd_commands.specs.declared.command.Command.{Command}
+use Rattle.cd_commands.specs.declared.command.Command.TheVariants as command
+use Rattle.cd_hearing.specs.declared.heard.Heard.{Heard}
+use Rattle.cd_hearing.specs.declared.heard.Heard.TheVariants as heard
+use Rattle.cd_shown.specs.Shown.{show, IsShown}
+use Rattle.cd_shown.specs.declared.file.Shown.{Shown}
+use Rattle.cd_shown.specs.declared.file.Shown.TheVariants as shows
 use Rattle.cd_shown.specs.declared.file.Shown.TheVariants.{Failed}
+use Rattle.cd_asking.specs.Asked.{Shows}
 use Rattle.cd_outside.specs.Shelf.{FileMap}
-use Rattle.cd_turn.specs.Order.{asked_in}
+use Rattle.cd_turn.specs.Order.{drilled, order_of, file_of, heard_in, asked_of}
 use Rattle.cd_turn.specs.Turn.{Turn, order_in, added, after_turn, after_turns, replies}
 use Rattle.cd_turn.specs.declared.reply.Reply.{Reply}
 use Rattle.cd_turn.specs.declared.status.Status.{Status}
 use Rattle.cd_turn.specs.declared.status.Status.TheVariants.{Done, Usage, Refused, Unfit, SourceFault, DiskFault, SinkFault, InputLimit, JournalFull, NoMemory}
 use Rattle.cd_turn.proofs.Fit.{fit_apart, one_list}
-use Rattle.cd_cli.specs.Complete.{turn_at, turns_at, whole_status, IsWhole, Completes, TurnsAway}
+use Rattle.cd_cli.specs.Complete.{turn_at, turns_at, IsWhole, Completes, TurnsAway}
 use Rattle.cd_cli.proofs.Going.{ended_weaker}
+use Rattle.cd_cli.proofs.Since.{goes_whole}
 use Rattle.cd_cli.specs.Told.{GoesBy}
 use Rattle.cd_cli.specs.Run.{most_input, run_events, texts, refused_after, OfBegun, EachFits, EndedBy, IsOpening, Ran, NotOpened, Opened, TookLine, Served}
 
@@ -33,36 +41,61 @@ all_front : (by : Turn → Type 0) (xs ys : List Turn) → All by (xs ++ ys) →
 all_front by [] ys h = All-nil by
 all_front by (x ∷ xs) ys h = All-cons by x xs (All-head by x (xs ++ ys) h) (all_front by xs ys (All-tail by x (xs ++ ys) h))
 
-all_back : (by : Turn → Type 0) (xs ys : List Turn) → All by (xs ++ ys) → All by ys
-all_back by [] ys h = h
-all_back by (x ∷ xs) ys h = all_back by xs ys (All-tail by x (xs ++ ys) h)
+-- a drill adds nothing
+drill_adds : (entries : List Entry) (now : ℕ) (name : List ℕ) (shown : Shown) → added entries now (drilled name shown) ≡ None
+drill_adds entries now name shows.Missing = refl
+drill_adds entries now name shows.Failed = refl
+drill_adds entries now name (shows.Long len) = refl
+drill_adds entries now name (shows.Text text) = refl
+drill_adds entries now name (shows.Report report) = refl
+drill_adds entries now name (shows.NoScript at) = refl
 
--- Where clock and files tell, and the files didn't fail, a turn is that of its event.
+-- Where clock and files tell, and the files didn't fail, a turn adds what the turn of its event adds.
 module _ (clock files : Type 0) (moment : ℕ) (held : FileMap) (rose : Type 0) (tells_clock : clock) (tells_files : files) (no_fault : rose → ⊥) where
   abbrev By : Turn → Type 0
   By = GoesBy clock files moment held rose
 
-  shown_as : (turn : Turn) → By turn → turn.shown ≡ show (asked_in held turn.event)
-  shown_as turn goes = ⊎_elim (λ (failed : turn.shown ≡ Failed). absurd (no_fault (goes.failed failed))) (λ (is : turn.shown ≡ show (asked_in held turn.event)). is) (goes.shown_is tells_files)
+  abbrev AddsAlike : Heard → ℕ → Shown → Type 0
+  AddsAlike said now shown = (entries : List Entry) → added entries now (order_of said shown) ≡ added entries moment (order_of said (show (asked_of held (file_of said))))
 
-  turn_is : (turn : Turn) → By turn → turn_at moment held turn.event ≡ turn
-  turn_is turn goes =
-      let at = sym (goes.moment_is tells_clock) in
-      let shown = sym (shown_as turn goes) in
-      λ i. record { now = at i; event = turn.event; shown = shown i }
+  -- it was shown what the files hold
+  read_adds : (said : Heard) (now : ℕ) (shown : Shown) → now ≡ moment → (shown ≡ Failed → ⊥) → (files → IsShown (asked_of held (file_of said)) shown) → AddsAlike said now shown
+  read_adds said now shown at sound h =
+      let is : shown ≡ show (asked_of held (file_of said)) = ⊎_elim (λ (failed : shown ≡ Failed). absurd (sound failed)) (λ (is : shown ≡ show (asked_of held (file_of said))). is) (h tells_files) in
+      λ entries i. added entries (at i) (order_of said (is i))
 
-  -- turns are those of their events
-  turns_are : (turns : List Turn) → All By turns → turns_at moment held (map event_in turns) ≡ turns
-  turns_are [] h = refl
-  turns_are (turn ∷ turns) h =
-      let first = turn_is turn (All-head By turn turns h) in
-      let more = turns_are turns (All-tail By turn turns h) in
-      λ i. first i ∷ more i
+  command_adds : (c : Command) (now : ℕ) (shown : Shown) → now ≡ moment → (shown ≡ Failed → ⊥) → Shows files held (heard.Command c) shown → AddsAlike (heard.Command c) now shown
+  command_adds (command.Init name home) now shown at sound h = read_adds (heard.Command (command.Init name home)) now shown at sound h
+  command_adds (command.SubmitFile name options) now shown at sound h = read_adds (heard.Command (command.SubmitFile name options)) now shown at sound h
+  command_adds (command.SubmitText p options) now shown at sound h = read_adds (heard.Command (command.SubmitText p options)) now shown at sound h
+  command_adds (command.View name symbols) now shown at sound h = read_adds (heard.Command (command.View name symbols)) now shown at sound h
+  command_adds (command.SelectProcess n queue) now shown at sound h = read_adds (heard.Command (command.SelectProcess n queue)) now shown at sound h
+  command_adds (command.Change n prty hold release) now shown at sound h = read_adds (heard.Command (command.Change n prty hold release)) now shown at sound h
+  command_adds (command.Delete n) now shown at sound h = read_adds (heard.Command (command.Delete n)) now shown at sound h
+  command_adds (command.Flush n) now shown at sound h = read_adds (heard.Command (command.Flush n)) now shown at sound h
+  command_adds (command.SelectStatistics n) now shown at sound h = read_adds (heard.Command (command.SelectStatistics n)) now shown at sound h
+  command_adds (command.ReleaseReceive file) now shown at sound h = read_adds (heard.Command (command.ReleaseReceive file)) now shown at sound h
+  command_adds (command.Work sessions turns) now shown at sound h = read_adds (heard.Command (command.Work sessions turns)) now shown at sound h
+  command_adds (command.Serve sessions together turns) now shown at sound h = read_adds (heard.Command (command.Serve sessions together turns)) now shown at sound h
+  command_adds (command.Drill name) now shown at sound h = λ entries. drill_adds entries now name shown
+  command_adds (command.Generate seed count) now shown at sound h = read_adds (heard.Command (command.Generate seed count)) now shown at sound h
+  command_adds command.Stop now shown at sound h = read_adds (heard.Command command.Stop) now shown at sound h
 
--- an entry under way fits where each does
-fits_at : (entries : List Entry) (turns more : List Turn) (turn : Turn) → EachFits entries (turns ++ turn ∷ more) → FitsBehind (after_turns entries turns) (added (after_turns entries turns) turn.now (order_in turn))
-fits_at entries [] more turn h = h.0
-fits_at entries (t ∷ turns) more turn h = fits_at (after_turn entries t) turns more turn h.1
+  heard_adds : (said : Heard) (now : ℕ) (shown : Shown) → now ≡ moment → (shown ≡ Failed → ⊥) → Shows files held said shown → AddsAlike said now shown
+  heard_adds (heard.Command c) now shown at sound h = command_adds c now shown at sound h
+  heard_adds (heard.Fault name place) now shown at sound h = read_adds (heard.Fault name place) now shown at sound h
+
+  adds : (entries : List Entry) (turn : Turn) → By turn → added entries turn.now (order_in turn) ≡ added entries moment (order_in (turn_at moment held turn.event))
+  adds entries turn goes = heard_adds (heard_in turn.event) turn.now turn.shown (goes.moment_is tells_clock) (λ failed. no_fault (goes.failed failed)) goes.shown_is entries
+
+  -- an entry under way fits where each does that turns of the events add
+  fits_at : (entries : List Entry) (turns : List Turn) (turn : Turn) (more : List Event) → All By (turns ++ turn ∷ []) → EachFits entries (turns_at moment held (map event_in turns ++ (turn.event ∷ more)))
+      → FitsBehind (after_turns entries turns) (added (after_turns entries turns) turn.now (order_in turn))
+  fits_at entries [] turn more all h = subst (FitsBehind entries) (sym (adds entries turn (All-head By turn [] all))) h.0
+  fits_at entries (t ∷ turns) turn more all h =
+      let same : after_turn entries (turn_at moment held t.event) ≡ after_turn entries t = ap (λ (e : Option Entry). entries ++ option_to_list e) (sym (adds entries t (All-head By t (turns ++ turn ∷ []) all))) in
+      fits_at (after_turn entries t) turns turn more (All-tail By t (turns ++ turn ∷ []) all)
+      (subst (λ (es : List Entry). EachFits es (turns_at moment held (map event_in turns ++ (turn.event ∷ more)))) same h.1)
 
 full_fits : (told : Type 0) (entries : List Entry) (entry : Option Entry) (len : ℕ) → told → IsFull told entries entry len → FitsBehind entries entry → ⊥
 full_fits told entries entry len t full fits =
@@ -75,9 +108,6 @@ module _ (disk clock files source sink rose_disk rose_files rose_in rose_out : T
     (kept : List Entry) (stood : StandsFor before.seen kept) (legal : IsLegal kept) (small : length input ≤ most_input) (no_disk : rose_disk → ⊥) (no_files : rose_files → ⊥) (no_in : rose_in → ⊥) (no_out : rose_out → ⊥) where
   abbrev Goes : Turn → Type 0
   Goes = GoesBy clock files moment held rose_files
-
-  are : (turns : List Turn) → All Goes turns → turns_at moment held (map event_in turns) ≡ turns
-  are turns all = turns_are clock files moment held rose_files tells_clock tells_files no_files turns all
 
   abbrev Why : Status → Type 0
   Why status = EndedBy rose_disk (λ at. disk → IsUnfit before.seen at) rose_in rose_out status
@@ -104,25 +134,20 @@ module _ (disk clock files source sink rose_disk rose_files rose_in rose_out : T
     -- all turns of the input were made
     whole : (turns : List Turn) (begun : Option Turn) (was : Bool) → All Goes (turns ++ option_to_list begun) → map event_in turns ≡ run_events input → refused_after false (replies entries turns) ≡ was
         → told ≡ out ++ texts (replies entries turns) → out_now ≡ told ++ [] → IsWhole moment held entries input out out_now (cond was Refused Done)
-    whole turns begun was at events refused output last =
-        let same : turns_at moment held (run_events input) ≡ turns = ap (turns_at moment held) (sym events) ∙ are turns (all_front Goes turns (option_to_list begun) at) in
-        record {
-          status_is = sym (ap (λ (t : List Turn). whole_status (replies entries t)) same ∙ ap (λ (b : Bool). cond b Refused Done) refused);
-          out_is = last ∙ append-nil told ∙ output ∙ ap (λ (t : List Turn). out ++ texts (replies entries t)) (sym same);
-        }
+    whole turns begun was at events refused output last = record {
+      turns = turns;
+      events_are = events;
+      told = All-weaker Goes (GoesBy (Unit {0}) (Unit {0}) moment held ⊥) (goes_whole clock files moment held rose_files tells_clock tells_files no_files) turns (all_front Goes turns (option_to_list begun) at);
+      status_is = sym (ap (λ (b : Bool). cond b Refused Done) refused);
+      out_is = last ∙ append-nil told ∙ output;
+    }
 
     -- the entry under way fits
     not_full : (turns : List Turn) (turn : Turn) (more : List Event) (len : ℕ) → All Goes (turns ++ turn ∷ []) → run_events input ≡ map event_in turns ++ (turn.event ∷ more)
         → IsFull disk (after_turns entries turns) (added (after_turns entries turns) turn.now (order_in turn)) len → ⊥
     not_full turns turn more len at events full =
-        let last = turn_is clock files moment held rose_files tells_clock tells_files no_files turn (All-head Goes turn [] (all_back Goes turns (turn ∷ []) at)) in
-        let front = are turns (all_front Goes turns (turn ∷ []) at) in
-        let same : turns_at moment held (run_events input) ≡ turns ++ (turn ∷ turns_at moment held more) =
-        ap (turns_at moment held) events
-        ∙ map-append (turn_at moment held) (map event_in turns) (turn.event ∷ more)
-        ∙ (λ i. front i ++ (last i ∷ turns_at moment held more)) in
         full_fits disk (after_turns entries turns) (added (after_turns entries turns) turn.now (order_in turn)) len tells_disk full
-        (fits_at entries turns (turns_at moment held more) turn (subst (EachFits entries) same fits))
+        (fits_at clock files moment held rose_files tells_clock tells_files no_files entries turns turn more at (subst (λ (es : List Event). EachFits entries (turns_at moment held es)) events fits))
 
     full_never : (len : ℕ) → Came (JournalFull len) → ⊥
     full_never len r = by_begun r.turns r.begun r.cause r.told (r.events tells_source)

@@ -11,7 +11,7 @@ use Rattle.cd_input.specs.Input.{Event, Whole, TooLong, Unfinished}
 use Rattle.cd_turn.specs.Ends.{FitsBehind}
 use Rattle.cd_turn.specs.declared.order.Order.{Order}
 use Rattle.cd_turn.specs.declared.order.Order.TheVariants as order
-use Rattle.cd_turn.specs.Order.{are_built, kept_with, submitting, submitted_from, viewed, order_for, order_of, heard_in, told_by}
+use Rattle.cd_turn.specs.Order.{are_built, kept_with, submitting, submitted_from, viewed, drilled, order_for, order_of, heard_in, told_by}
 use Rattle.cd_ast.specs.declared.process.Process.{Process}
 use Rattle.cd_commands.specs.declared.command.Command.{Command}
 use Rattle.cd_commands.specs.declared.command.Command.TheVariants as command
@@ -20,6 +20,7 @@ use Rattle.cd_hearing.specs.declared.heard.Heard.{Heard}
 use Rattle.cd_hearing.specs.declared.heard.Heard.TheVariants as heard
 use Rattle.cd_shown.specs.Reading.{process_in}
 use Rattle.cd_shown.specs.declared.file.Shown.{Shown}
+use Rattle.cd_shown.specs.declared.file.Shown.TheVariants as shows
 use Rattle.cd_shown.specs.declared.reading.Unread.{Unread}
 use Rattle.cd_turn.specs.Reply.{reply_text, is_refused}
 use Rattle.cd_turn.specs.Turn.{Turn, order_in, answer, partner_answer, refusal_for, named_answer, added, after_turn, after_turns, replies}
@@ -144,6 +145,14 @@ view_goes : (text : List ℕ) (entries : List Entry) (read : Result Process Unre
 view_goes text entries (Ok p) = refl
 view_goes text entries (Err why) = refl
 
+drill_goes : (text : List ℕ) (entries : List Entry) (name : List ℕ) (shown : Shown) → ends_by (Whole text) (answer entries (drilled name shown)) ≡ false
+drill_goes text entries name shows.Missing = refl
+drill_goes text entries name shows.Failed = refl
+drill_goes text entries name (shows.Long len) = refl
+drill_goes text entries name (shows.Text seen) = refl
+drill_goes text entries name (shows.Report report) = refl
+drill_goes text entries name (shows.NoScript at) = refl
+
 init_goes : (text : List ℕ) (entries : List Entry) (name : List ℕ) (home : ℕ) → ends_by (Whole text) (answer entries (order.Init name home)) ≡ false
 init_goes text [] name home = refl
 init_goes text (e ∷ entries) name home = refl
@@ -161,7 +170,7 @@ command_ends text entries (command.SelectStatistics n) shown = refl
 command_ends text entries (command.ReleaseReceive file) shown = refl
 command_ends text entries (command.Work sessions turns) shown = refl
 command_ends text entries (command.Serve sessions together turns) shown = refl
-command_ends text entries (command.Drill file) shown = refl
+command_ends text entries (command.Drill file) shown = drill_goes text entries file shown
 command_ends text entries (command.Generate seed count) shown = refl
 command_ends text entries command.Stop shown = refl
 

@@ -30,6 +30,7 @@ ends_by (Whole text) reply.Stopped = true
 ends_by (Whole text) (reply.Home name home) = false
 ends_by (Whole text) (reply.Submitted number) = false
 ends_by (Whole text) (reply.Viewed seen) = false
+ends_by (Whole text) (reply.Reported report) = false
 ends_by (Whole text) (reply.Refused refusal) = false
 ends_by TooLong given = true
 ends_by Unfinished given = true

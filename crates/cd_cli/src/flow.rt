@@ -27,7 +27,11 @@ fn last_of(reply: &Reply) -> Last
 {
     match reply {
         Reply::Refused(_) => Last::Refused,
-        Reply::Home(..) | Reply::Submitted(_) | Reply::Viewed(_) | Reply::Stopped => Last::Done,
+        Reply::Home(..)
+        | Reply::Submitted(_)
+        | Reply::Viewed(_)
+        | Reply::Reported(_)
+        | Reply::Stopped => Last::Done,
     }
 }
 
@@ -39,7 +43,9 @@ fn flow_after(reply: &Reply) -> Flow
     match reply {
         Reply::Stopped => Flow::Ends(Last::Done),
         Reply::Refused(_) => Flow::Goes(Last::Refused),
-        Reply::Home(..) | Reply::Submitted(_) | Reply::Viewed(_) => Flow::Goes(Last::Done),
+        Reply::Home(..) | Reply::Submitted(_) | Reply::Viewed(_) | Reply::Reported(_) => {
+            Flow::Goes(Last::Done)
+        }
     }
 }
 

@@ -18,10 +18,11 @@ ghost use Rattle.cd_cli.specs.Stretch.{standing, HaveTurned, Halted, Went, Finis
 use crate::flow::{Flow, Last, flow_of};
 use crate::reader::Reader;
 use crate::telling::tell_last;
+use cd_asking::show_for;
 use cd_input::{Found, Scanner};
 use cd_journal::JournalFault;
 use cd_outside::{Beat, Clock, Disk, Files, Sink, Source};
-use cd_turn::{Home, Status, hear_found, make_turn, order_of, show_for};
+use cd_turn::{Home, Status, hear_found, make_turn, order_of};
 use std::alloc::Global;
 
 /// The most bytes of the input that are read.
@@ -295,7 +296,7 @@ fn run<P: Disk, F: Files, C: Clock, S: Source, O: Sink>(
 
 /// Runs the node on the journal: reads commands from the input, and writes the answer to each to the output. A submission
 /// gets its number, and is on the disk before the line that acknowledges it is written. A Process that stands in a file is read
-/// there; no file is changed. It takes no words.
+/// there, and so is a script that is drilled; no file is changed. It takes no words.
 ///
 /// A run makes turns, one after the other, of the commands of the input, and the status tells how far it came. A crash at any
 /// moment leaves a journal of all that was kept before the run, and behind it just what the first of these turns add.
@@ -317,7 +318,7 @@ pub fn run_node<P: Disk, F: Files, C: Clock, S: Source, O: Sink>(
     ensures served { length words.now ≡ 0 → Served P.told S.told O.told (Rose (O.faults out.old) (O.faults out.new)) (GoesBy C.told F.told (C.moment clock.old) (F.state files.old).shelf.seen (Rose (F.faults files.old) (F.faults files.new)))
         (P.state journal.old) (P.state journal.new) (S.remaining input.old) (S.remaining input.new) (O.taken out.old) (O.taken out.new) result }
     // On a journal of a legal list, which may have no bytes, it does all of an input that isn't longer than what is read at most,
-    // where each entry fits and no device fails.
+    // where each entry fits and no device fails. A drill adds none.
     ensures complete { length words.now ≡ 0 → P.told → F.told → C.told → S.told → O.told → (entries : List Entry) → StandsFor (P.state journal.old).seen entries → IsLegal entries
         → length (S.remaining input.old) ≤ most_input → EachFits entries (turns_at (C.moment clock.old) (F.state files.old).shelf.seen (run_events (S.remaining input.old)))
         → (Rose (P.faults journal.old) (P.faults journal.new) → ⊥) → (Rose (F.faults files.old) (F.faults files.new) → ⊥) → (Rose (S.faults input.old) (S.faults input.new) → ⊥) → (Rose (O.faults out.old) (O.faults out.new) → ⊥)

@@ -5,7 +5,7 @@ use Rattle.cd_ast.specs.declared.process.Process.{Process}
 use Rattle.cd_grammar.specs.Later.{Found}
 use Rattle.cd_hearing.specs.Texts.{read_as}
 use Rattle.cd_shown.specs.declared.file.Shown.{Shown}
-use Rattle.cd_shown.specs.declared.file.Shown.TheVariants.{Missing, Failed, Long, Text}
+use Rattle.cd_shown.specs.declared.file.Shown.TheVariants.{Missing, Failed, Long, Text, Report, NoScript}
 use Rattle.cd_shown.specs.declared.reading.Unread.{Unread}
 use Rattle.cd_shown.specs.declared.reading.Unread.TheVariants.{NoFile, FileFault, Wrong}
 
@@ -20,3 +20,6 @@ process_in name symbols Missing = Err (NoFile name)
 process_in name symbols Failed = Err FileFault
 process_in name symbols (Long len) = Err (Wrong TooLong len)
 process_in name symbols (Text text) = of_text (read_as text symbols)
+-- what a drill came to is no Process
+process_in name symbols (Report report) = Err (NoFile name)
+process_in name symbols (NoScript at) = Err (NoFile name)

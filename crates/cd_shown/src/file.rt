@@ -12,7 +12,7 @@ use std::alloc::Global;
 /// The most bytes that the text of a Process may have.
 const LONGEST: u64 = 65_536;
 
-/// What the files show of a file in which a Process stands.
+/// What a command is shown of the file for which it asks: a Process's text, or what a drill of a script came to.
 #[derive(Debug, Drop)]
 pub enum Shown {
     /// There is no such file.
@@ -23,9 +23,13 @@ pub enum Shown {
     Long(u64),
     /// Its text.
     Text(Bytes),
+    /// It is a script, and a drill of it reports this.
+    Report(Bytes),
+    /// It is no script: its line that begins at this place asks for nothing.
+    NoScript(u64),
 }
 
-/// Looks at a file: asks its length, and where there is one reads it in one call, of which no more is kept than a Process's text
+/// Looks at a file in which a Process stands: asks its length, and where there is one reads it in one call, of which no more is kept than a Process's text
 /// may have. The files are changed in nothing, and have failed only where their count rose.
 pub fn look<F: Files>(alloc: Global, files: &mut F, name: &[u8]) -> Result<Shown, NoMemory>
     ensures shown { F.told → IfOk result (λ shown. IsShown ((F.state files.old).shelf.seen name.now) shown) }

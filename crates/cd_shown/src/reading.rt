@@ -9,7 +9,7 @@ use cd_hearing::{law_of_resolved_readings, read_as};
 use cd_types::{Bytes, NoMemory, Symbols};
 use std::alloc::Global;
 
-/// Why a file says no Process.
+/// Why a file says no Process, or why there is no report of a drill.
 #[derive(Debug, Drop)]
 pub enum Unread {
     /// There is no file of this name.
@@ -33,7 +33,7 @@ pub fn process_in(
 {
     law_of_resolved_readings();
     match shown {
-        Shown::Missing => Ok(Err(Unread::NoFile(name))),
+        Shown::Missing | Shown::Report(_) | Shown::NoScript(_) => Ok(Err(Unread::NoFile(name))),
         Shown::Failed => Ok(Err(Unread::FileFault)),
         Shown::Long(len) => Ok(Err(Unread::Wrong(FaultName::TooLong, *len))),
         Shown::Text(text) => match read_as(alloc, text.as_slice(), symbols) {

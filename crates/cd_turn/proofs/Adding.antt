@@ -189,5 +189,7 @@ added_may entries now order.SubmitNotBuilt e legal form h = absurd cc
 added_may entries now (order.SubmitUnread why) e legal form h = absurd cc
 added_may entries now (order.View process) e legal form h = absurd cc
 added_may entries now (order.ViewUnread why) e legal form h = absurd cc
+added_may entries now (order.Report report) e legal form h = absurd cc
+added_may entries now (order.DrillUnread why) e legal form h = absurd cc
 added_may entries now (order.Init name home) e legal form h = home_may entries name home e form h
 added_may entries now (order.Submit process) e legal form h = submission_may entries now process e legal form h

@@ -2,7 +2,7 @@
 use Rattle.std.specs.Prelude.{◌≡◌, ℕ, ◌≤◌, List, length, Bool, true, ◌&&◌, is_none, Option, Some, None, Result, Ok, Err, if◌then◌else◌}
 use Rattle.cd_types.specs.NodeName.{IsNodeName}
 use Rattle.cd_ast.specs.Canonical.{canonical}
-use Rattle.cd_ast.specs.declared.fault.FaultName.TheVariants.{TooLong, Unfinished}
+use Rattle.cd_ast.specs.declared.fault.FaultName.TheVariants.{TooLong, Unfinished, ScriptText}
 use Rattle.cd_ast.specs.declared.process.Process.{Process}
 use Rattle.cd_commands.specs.declared.command.Command.{Command}
 use Rattle.cd_commands.specs.declared.command.Command.TheVariants as command
@@ -18,7 +18,9 @@ use Rattle.cd_outside.specs.Shelf.{FileMap}
 use Rattle.cd_reading.specs.Read.{canonical_reading}
 use Rattle.cd_shown.specs.Reading.{process_in}
 use Rattle.cd_shown.specs.declared.file.Shown.{Shown}
+use Rattle.cd_shown.specs.declared.file.Shown.TheVariants.{Missing, Failed, Long, Text, Report, NoScript}
 use Rattle.cd_shown.specs.declared.reading.Unread.{Unread}
+use Rattle.cd_shown.specs.declared.reading.Unread.TheVariants.{NoFile, FileFault, Wrong}
 use Rattle.cd_turn.specs.declared.order.Order.{Order}
 use Rattle.cd_turn.specs.declared.order.Order.TheVariants as order
 
@@ -50,12 +52,22 @@ abbrev pub viewed : Result Process Unread → Order
 viewed (Ok process) = order.View process
 viewed (Err why) = order.ViewUnread why
 
+-- a drill of the script of this name, by what was shown of it; a Process's text is no script
+abbrev pub drilled : List ℕ → Shown → Order
+drilled name (Report report) = order.Report report
+drilled name (NoScript at) = order.DrillUnread (Wrong ScriptText at)
+drilled name Failed = order.DrillUnread FileFault
+drilled name Missing = order.DrillUnread (NoFile name)
+drilled name (Long len) = order.DrillUnread (NoFile name)
+drilled name (Text text) = order.DrillUnread (NoFile name)
+
 -- what a command asks, by what was shown of the file that it asks for
 abbrev pub order_for : Command → Shown → Order
 order_for (command.Init name home) shown = order.Init name home
 order_for (command.SubmitText process options) shown = submitted options process
 order_for (command.SubmitFile name options) shown = if are_built options then submitted_from options (process_in name options.symbols shown) else order.NotBuilt
 order_for (command.View name symbols) shown = viewed (process_in name symbols shown)
+order_for (command.Drill name) shown = drilled name shown
 order_for command.Stop shown = order.Stop
 order_for _ shown = order.NotBuilt
 
@@ -63,7 +75,7 @@ abbrev pub order_of : Heard → Shown → Order
 order_of (said.Command c) shown = order_for c shown
 order_of (said.Fault name at) shown = order.Wrong name at
 
--- the file for whose text a command asks: a submission from a file with options that are built, and a look
+-- the file for whose Process a command asks: a submission from a file with options that are built, and a look
 abbrev pub file_for : Command → Option (List ℕ)
 file_for (command.SubmitFile name options) = if are_built options then Some name else None
 file_for (command.View name symbols) = Some name
@@ -109,6 +121,8 @@ IsFormed order.SubmitNotBuilt = Unit {0}
 IsFormed (order.SubmitUnread why) = Unit {0}
 IsFormed (order.View process) = Unit {0}
 IsFormed (order.ViewUnread why) = Unit {0}
+IsFormed (order.Report report) = Unit {0}
+IsFormed (order.DrillUnread why) = Unit {0}
 IsFormed order.Stop = Unit {0}
 
 -- a Process that a text says after substitution

@@ -1,10 +1,10 @@
--- The text of each reply: a line, or the lines of a canonical text.
+-- The text of each reply: a line, or the lines of a canonical text or of a report.
 use Rattle.std.specs.Prelude.{ℕ, List, [], ◌∷◌, ◌++◌, codes, Bool, true, false}
 use Rattle.std.specs.Fmt.{decimal}
 use Rattle.cd_ast.specs.declared.fault.FaultName.{FaultName}
 use Rattle.cd_ast.specs.declared.fault.FaultName.TheVariants as name
 use Rattle.cd_turn.specs.declared.reply.Reply.{Reply}
-use Rattle.cd_turn.specs.declared.reply.Reply.TheVariants.{Home, Submitted, Viewed, Stopped, Refused}
+use Rattle.cd_turn.specs.declared.reply.Reply.TheVariants.{Home, Submitted, Viewed, Reported, Stopped, Refused}
 use Rattle.cd_turn.specs.declared.reply.Refusal.{Refusal}
 use Rattle.cd_turn.specs.declared.reply.Refusal.TheVariants.{Text, NotYet, NotHome, AlreadyHome, NoFile, FileFault, NoNode, Full}
 
@@ -47,6 +47,7 @@ abbrev pub reply_text : Reply → List ℕ
 reply_text (Home name home) = line (codes "HOME " ++ name ++ codes " " ++ decimal home)
 reply_text (Submitted number) = line (codes "PROCESS " ++ decimal number ++ codes " SUBMITTED")
 reply_text (Viewed text) = text
+reply_text (Reported report) = report
 reply_text Stopped = line (codes "STOPPED")
 reply_text (Refused refusal) = line (codes "REFUSED " ++ refusal_text refusal)
 

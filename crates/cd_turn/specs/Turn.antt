@@ -48,8 +48,8 @@ abbrev pub named_answer : List Entry → Refusal → Reply
 named_answer entries refusal = if is_named entries then reply.Refused refusal else reply.Refused NotHome
 
 -- The answer to an order of a home with these entries. A text that is no command goes before all, and then what isn't built. A
--- home is named once, and each other command but `stop` and a look at a Process needs a named one. What is seen of a Process is its
--- canonical text.
+-- home is named once, and each other command but `stop`, a look at a Process and a drill needs a named one. What is seen of a Process
+-- is its canonical text.
 abbrev pub answer : List Entry → Order → Reply
 answer entries (order.Wrong name at) = reply.Refused (Text name at)
 answer entries order.NotBuilt = reply.Refused NotYet
@@ -60,6 +60,8 @@ answer entries order.SubmitNotBuilt = named_answer entries NotYet
 answer entries (order.SubmitUnread why) = named_answer entries (refusal_for why)
 answer entries (order.View process) = reply.Viewed (canonical process)
 answer entries (order.ViewUnread why) = reply.Refused (refusal_for why)
+answer entries (order.Report report) = reply.Reported report
+answer entries (order.DrillUnread why) = reply.Refused (refusal_for why)
 
 -- the entry of a submission at this moment, with this partner; it is not earlier than those before it
 abbrev pub submission : List Entry → ℕ → List ℕ → Process → Entry
@@ -79,6 +81,8 @@ added entries now order.SubmitNotBuilt = None
 added entries now (order.SubmitUnread why) = None
 added entries now (order.View process) = None
 added entries now (order.ViewUnread why) = None
+added entries now (order.Report report) = None
+added entries now (order.DrillUnread why) = None
 added entries now (order.Submit process) = if is_named entries then submission_with entries now process process.card.snode else None
 
 -- one turn: the clock's moment, what came to its end in the input, and what was shown of the file for which that asks

@@ -7,7 +7,7 @@ ghost use Rattle.cd_input.specs.Scanner.{event_of};
 ghost use Rattle.cd_outside.specs.Counts.{Rose};
 ghost use Rattle.cd_shown.specs.Reading.{process_in};
 ghost use Rattle.cd_shown.specs.Shown.{IsShown};
-ghost use Rattle.cd_turn.specs.Order.{are_built, kept_with, submitting, submitted, submitted_from, viewed, order_for, order_of, file_for, file_of, heard_in, asked_of, IsKept, IsFormed, IsSaid, WasSaid, WasHeard, WasRead};
+ghost use Rattle.cd_turn.specs.Order.{are_built, kept_with, submitting, submitted, submitted_from, viewed, drilled, order_for, order_of, file_for, file_of, heard_in, asked_of, IsKept, IsFormed, IsSaid, WasSaid, WasHeard, WasRead};
 
 use cd_ast::{FaultName, Process};
 use cd_commands::{Command, Options};
@@ -43,6 +43,10 @@ pub enum Order {
     View(Process),
     /// It is looked at, and there is none.
     ViewUnread(Unread),
+    /// A drill of a script was asked for, and reports this.
+    Report(Bytes),
+    /// A drill was asked for, and there is no script.
+    DrillUnread(Unread),
     Stop,
 }
 
@@ -167,6 +171,21 @@ fn viewed_file(
     }
 }
 
+/// A drill of the script of this name.
+fn drilled(alloc: Global, name: Bytes, shown: &Shown) -> Result<Order, NoMemory>
+    ensures order { IfOk result (λ order. order ≡ drilled name shown.now) }
+    ensures formed { IfOk result IsFormed }
+{
+    match shown {
+        Shown::Report(report) => Ok(Order::Report(Bytes::copy_of(alloc, report.as_slice())?)),
+        Shown::NoScript(at) => Ok(Order::DrillUnread(Unread::Wrong(FaultName::ScriptText, *at))),
+        Shown::Failed => Ok(Order::DrillUnread(Unread::FileFault)),
+        Shown::Missing | Shown::Long(_) | Shown::Text(_) => {
+            Ok(Order::DrillUnread(Unread::NoFile(name)))
+        }
+    }
+}
+
 /// What a command asks, by what was shown of the file for which it asks.
 fn order_for(alloc: Global, command: Command, shown: &Shown) -> Result<Order, NoMemory>
     ensures order { IfOk result (λ order. order ≡ order_for command shown.now) }
@@ -188,6 +207,10 @@ fn order_for(alloc: Global, command: Command, shown: &Shown) -> Result<Order, No
             }
         }
         Command::View(name, symbols) => match viewed_file(alloc, name, &symbols, shown) {
+            Ok(order) => Ok(order),
+            Err(fault) => Err(fault),
+        },
+        Command::Drill(name) => match drilled(alloc, name, shown) {
             Ok(order) => Ok(order),
             Err(fault) => Err(fault),
         },
@@ -249,8 +272,8 @@ fn show_command<F: Files>(
     }
 }
 
-/// What the files show of the file for which it asks; where it asks for none, it is as if there were none. The files are changed in
-/// nothing, and have failed only where their count rose.
+/// What the files show of the file in which the Process stands for which it asks; where it asks for none, it is as if there were
+/// none. The files are changed in nothing, and have failed only where their count rose.
 pub fn show_for<F: Files>(alloc: Global, said: &Heard, files: &mut F) -> Result<Shown, NoMemory>
     ensures shown { F.told → IfOk result (λ shown. IsShown (asked_of (F.state files.old).shelf.seen (file_of said.now)) shown) }
     ensures failed { IfOk result (λ shown. shown ≡ Shown.Failed → Rose (F.faults files.old) (F.faults files.new)) }

@@ -27,7 +27,7 @@ pub enum Refusal {
     Full(u32),
 }
 
-/// The answer to a command. Each is printed as a line, but for a canonical text, which has its own.
+/// The answer to a command. Each is printed as a line, but for a canonical text and a report, which have their own.
 #[derive(Debug, Drop)]
 pub enum Reply {
     /// The home has this name and this number from now on.
@@ -36,6 +36,8 @@ pub enum Reply {
     Submitted(ProcNo),
     /// A Process has this canonical text.
     Viewed(Bytes),
+    /// A drill reports this.
+    Reported(Bytes),
     /// The run ends.
     Stopped,
     /// The command wasn't done.
@@ -144,7 +146,9 @@ impl Reply {
         match self {
             Reply::Home(name, home) => home_text(alloc, *name, *home),
             Reply::Submitted(number) => submitted_text(alloc, number.number()),
-            Reply::Viewed(text) => Ok(Vec::from_slice(alloc, text.as_slice())?),
+            Reply::Viewed(text) | Reply::Reported(text) => {
+                Ok(Vec::from_slice(alloc, text.as_slice())?)
+            }
             Reply::Stopped => Ok(Vec::from_slice(alloc, b"STOPPED\n")?),
             Reply::Refused(refusal) => refused_text(alloc, refusal),
         }

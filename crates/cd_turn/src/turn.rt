@@ -122,7 +122,10 @@ fn reply_to(alloc: Global, home: &Home, wanted: &Order) -> Result<Reply, NoMemor
             Ok(reply) => Ok(reply),
             Err(fault) => Err(fault),
         },
-        Order::ViewUnread(why) => Ok(Reply::Refused(refusal_for(alloc, why)?)),
+        Order::ViewUnread(why) | Order::DrillUnread(why) => {
+            Ok(Reply::Refused(refusal_for(alloc, why)?))
+        }
+        Order::Report(report) => Ok(Reply::Reported(Bytes::copy_of(alloc, report.as_slice())?)),
     }
 }
 
@@ -180,6 +183,8 @@ fn entry_for(
         | Order::SubmitUnread(_)
         | Order::View(_)
         | Order::ViewUnread(_)
+        | Order::Report(_)
+        | Order::DrillUnread(_)
         | Order::Stop => Ok(None),
         Order::Init(name, number) => {
             if is_named(home.entries()) {

@@ -2,8 +2,8 @@ use Rattle.std.proofs.Common.{◌≡◌, [], ◌∷◌, ap, subst, sym, ◌∙�
 use Rattle.cd_outside.specs.Counts.{Rose}
 use Rattle.cd_input.specs.Scanner.{event_of}
 use Rattle.cd_hearing.specs.declared.heard.Heard.{Heard}
-use Rattle.cd_shown.specs.Shown.{IsShown}
-use Rattle.cd_turn.specs.Order.{asked_of, file_of, order_of}
+use Rattle.cd_asking.specs.Asked.{Shows}
+use Rattle.cd_turn.specs.Order.{order_of}
 use Rattle.cd_turn.specs.Turn.{Turn, order_in, answer, added}
 use Rattle.cd_turn.proofs.Homes.{rests_kept}
 use Rattle.cd_cli.specs.Flow.{was_refused, last_in, ends_by}
@@ -37,7 +37,7 @@ returns-in-Ok-make_turn-clause-went g c = λ was.
     let by : Turn → Type 0 = GoesBy g.C.Clock.told g.F.Files.told (g.C.Clock.moment c.args.clock.now) (g.F.Files.state c.args.files.now).shelf.seen (Rose (g.F.Files.faults c.args.files.now) (g.F.Files.faults c.show_for.new.files)) in
     let goes : by turn = record {
       moment_is = λ told. c.now-now.ensures.moment told;
-      shown_is = λ told. subst (λ (said : Heard). IsShown (asked_of (g.F.Files.state c.args.files.now).shelf.seen (file_of said)) c.in-Ok-show_for.shown) c.in-Ok.ensures.heard (c.in-Ok-show_for.ensures.shown told);
+      shown_is = subst (λ (said : Heard). Shows g.F.Files.told (g.F.Files.state c.args.files.now).shelf.seen said c.in-Ok-show_for.shown) c.in-Ok.ensures.heard c.in-Ok-show_for.ensures.shown;
       failed = λ is. c.in-Ok-show_for.ensures.failed is;
     } in
     let wanted : c.in-Ok-order_of.order ≡ order_in turn = c.in-Ok-order_of.ensures.order ∙ ap (λ (said : Heard). order_of said c.in-Ok-show_for.shown) c.in-Ok.ensures.heard in
@@ -59,7 +59,7 @@ returns-clause-halted g c = λ was.
     let by : Turn → Type 0 = GoesBy g.C.Clock.told g.F.Files.told (g.C.Clock.moment c.args.clock.now) (g.F.Files.state c.args.files.now).shelf.seen (Rose (g.F.Files.faults c.args.files.now) (g.F.Files.faults c.show_for.new.files)) in
     let goes : by turn = record {
       moment_is = λ told. c.now-now.ensures.moment told;
-      shown_is = λ told. subst (λ (said : Heard). IsShown (asked_of (g.F.Files.state c.args.files.now).shelf.seen (file_of said)) c.in-Ok-show_for.shown) c.in-Ok.ensures.heard (c.in-Ok-show_for.ensures.shown told);
+      shown_is = subst (λ (said : Heard). Shows g.F.Files.told (g.F.Files.state c.args.files.now).shelf.seen said c.in-Ok-show_for.shown) c.in-Ok.ensures.heard c.in-Ok-show_for.ensures.shown;
       failed = λ is. c.in-Ok-show_for.ensures.failed is;
     } in
     let wanted : c.in-Ok-order_of.order ≡ order_in turn = c.in-Ok-order_of.ensures.order ∙ ap (λ (said : Heard). order_of said c.in-Ok-show_for.shown) c.in-Ok.ensures.heard in
@@ -79,7 +79,7 @@ returns-in-Ok-make_turn-clause-moments g c = λ told.
     let by : Turn → Type 0 = GoesBy g.C.Clock.told g.F.Files.told (g.C.Clock.moment c.args.clock.now) (g.F.Files.state c.args.files.now).shelf.seen (Rose (g.F.Files.faults c.args.files.now) (g.F.Files.faults c.show_for.new.files)) in
     let goes : by turn = record {
       moment_is = λ told. c.now-now.ensures.moment told;
-      shown_is = λ told. subst (λ (said : Heard). IsShown (asked_of (g.F.Files.state c.args.files.now).shelf.seen (file_of said)) c.in-Ok-show_for.shown) c.in-Ok.ensures.heard (c.in-Ok-show_for.ensures.shown told);
+      shown_is = subst (λ (said : Heard). Shows g.F.Files.told (g.F.Files.state c.args.files.now).shelf.seen said c.in-Ok-show_for.shown) c.in-Ok.ensures.heard c.in-Ok-show_for.ensures.shown;
       failed = λ is. c.in-Ok-show_for.ensures.failed is;
     } in
     let wanted : c.in-Ok-order_of.order ≡ order_in turn = c.in-Ok-order_of.ensures.order ∙ ap (λ (said : Heard). order_of said c.in-Ok-show_for.shown) c.in-Ok.ensures.heard in
@@ -92,7 +92,7 @@ returns-clause-moments g c = λ told.
     let by : Turn → Type 0 = GoesBy g.C.Clock.told g.F.Files.told (g.C.Clock.moment c.args.clock.now) (g.F.Files.state c.args.files.now).shelf.seen (Rose (g.F.Files.faults c.args.files.now) (g.F.Files.faults c.show_for.new.files)) in
     let goes : by turn = record {
       moment_is = λ told. c.now-now.ensures.moment told;
-      shown_is = λ told. subst (λ (said : Heard). IsShown (asked_of (g.F.Files.state c.args.files.now).shelf.seen (file_of said)) c.in-Ok-show_for.shown) c.in-Ok.ensures.heard (c.in-Ok-show_for.ensures.shown told);
+      shown_is = subst (λ (said : Heard). Shows g.F.Files.told (g.F.Files.state c.args.files.now).shelf.seen said c.in-Ok-show_for.shown) c.in-Ok.ensures.heard c.in-Ok-show_for.ensures.shown;
       failed = λ is. c.in-Ok-show_for.ensures.failed is;
     } in
     let wanted : c.in-Ok-order_of.order ≡ order_in turn = c.in-Ok-order_of.ensures.order ∙ ap (λ (said : Heard). order_of said c.in-Ok-show_for.shown) c.in-Ok.ensures.heard in

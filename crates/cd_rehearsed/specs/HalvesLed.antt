@@ -1,0 +1,180 @@
+-- What a node of a drill does, in the world.
+use Rattle.std.proofs.Common.{◌≡◌, ◌⊎◌, inl, inr, ℕ, suc, Bool, true, false, List, [], ◌∷◌, length, ltb, Option, Some, None, refl, sym, ◌∙◌, ap, subst, arith, length-append}
+use Rattle.std.proofs.lemmas.Bool.{lt-ltb, le-ltb}
+use Rattle.cd_types.specs.declared.rows.Row.{Row}
+use Rattle.cd_outside.specs.Lines.{IsFresh}
+use Rattle.cd_outside.specs.declared.sid.Sid.{Sid}
+use Rattle.cd_memory.specs.MemoryFiles as files
+use Rattle.cd_memory.specs.MemoryLines.{last_of, traffic_of, counts_of}
+use Rattle.cd_memory.specs.declared.files.MemoryFiles.{MemoryFiles}
+use Rattle.cd_status.specs.Processes.{own_home}
+use Rattle.cd_status.specs.Queue.{next_due}
+use Rattle.cd_moves.specs.declared.session.Phase.TheVariants.{Fresh}
+use Rattle.cd_moves.specs.Rows.{hello}
+use Rattle.cd_node.specs.declared.session.Session.{Session}
+use Rattle.cd_reading.specs.Read.{canonical_reading}
+use Rattle.cd_plain.specs.Choice.{MadeSession, WasConnected, WasLost, WasChosen, TookSession, HadNone}
+use Rattle.cd_plain.specs.Chosen.{busy_in}
+use Rattle.cd_plain.specs.NodeState.{NodeState}
+use Rattle.cd_plain.specs.Turned.{Told, HadTurn, NoTurn}
+use Rattle.cd_plain.specs.declared.handled.Handled.{Handled}
+use Rattle.cd_plain.specs.declared.handled.Handled.TheVariants as handled
+use Rattle.cd_drill.specs.AtRest.{entries_of, told_of, TookTurn, Chose, WasOffered}
+use Rattle.cd_drill.specs.Pairs.{answer_to, CameOf, Accepted}
+use Rattle.cd_drill.specs.declared.half.Half.{Half}
+use Rattle.cd_world.specs.World.{At, World}
+use Rattle.cd_rehearsed.specs.Carried.{TookOnly, HeardAll}
+use Rattle.cd_rehearsed.specs.ChoicesLed.{ChoiceIs, same_world, placed_led}
+use Rattle.cd_rehearsed.specs.ConnectedLed.{connected_led}
+use Rattle.cd_rehearsed.specs.Joined.{WroteIn}
+use Rattle.cd_rehearsed.specs.Led.{leads_none}
+use Rattle.cd_rehearsed.specs.Mirrors.{EachFrame, IsWorldOf, LeadsTo}
+use Rattle.cd_rehearsed.specs.Numbered.{AreNumbered, numbered_more, last_number}
+use Rattle.cd_rehearsed.specs.TurnsLed.{turn_led, none_led}
+
+-- two nodes of a drill, at this moment, are this world
+abbrev pub AreWorld : ℕ → Half → Half → World → Type 0
+AreWorld now here other w = IsWorldOf canonical_reading now here.node other.node (told_of here) (told_of other) w
+
+-- what comes to a node changes nothing of the world
+module _ (now : ℕ) (here at other : Half) (w : World) (h : AreWorld now here other w) where
+  offered_world : (sid : Sid) (bytes : List ℕ) → WasOffered sid bytes here at → AreWorld now at other w
+  offered_world sid bytes was = same_world canonical_reading now here.node other.node at.node (told_of here) (told_of at) (told_of other) w h (record {
+    entries = ap (λ (n : NodeState). n.registry.entries) was.node;
+    kept = record { sessions = ap (λ (n : NodeState). n.sessions) was.node; readings = ap (λ (n : NodeState). n.readings) was.node; holdings = ap (λ (n : NodeState). n.holdings) was.node };
+    config = ap (λ (n : NodeState). n.config) was.node;
+    shelf = ap (λ (m : MemoryFiles). (files.state_of m).shelf) was.files;
+    traffic = was.lines.traffic;
+  })
+
+  pub came_world : (way : List ℕ) (sid : Sid) (passed now_passed : ℕ) → CameOf way sid passed here at now_passed → AreWorld now at other w
+  came_world [] sid passed now_passed came = subst (λ (half : Half). AreWorld now half other w) (sym came.0) h
+  came_world (b ∷ bytes) sid passed now_passed came = offered_world sid _ came.0
+
+pub came_moment : (way : List ℕ) (sid : Sid) (passed now_passed : ℕ) (here at : Half) → CameOf way sid passed here at now_passed → at.moment ≡ here.moment
+came_moment [] sid passed now_passed here at came = ap (λ (half : Half). half.moment) came.0
+came_moment (b ∷ bytes) sid passed now_passed here at came = came.0.moment
+
+-- A session had its turn, about what was on the way to it.
+pub half_turned : (now : ℕ) (here after other : Half) (w : World) (x : At) (way : List ℕ) (sid : Sid) (answer : Handled) → answer ≡ answer_to way sid → AreWorld now here other w → here.moment ≡ now → (t : TookTurn sid answer here after)
+    → HeardAll way sid.number (told_of after) → TookOnly ((told_of after).traffic.taken sid.number) ((told_of other).traffic.given sid.number) → WroteIn sid answer here after t.turned
+    → LeadsTo x w (AreWorld now after other)
+half_turned now here after other w x way sid answer answered h moment t quiet only wrote =
+    subst (λ (m : ℕ). LeadsTo x w (AreWorld m after other)) moment (by_turn t.turned (subst (λ (m : ℕ). AreWorld m here other w) (sym moment) h) wrote)
+  where
+    by_turn : (turned : HadTurn (Unit {0}) (Unit {0}) canonical_reading here.moment sid answer here.node after.node (told_of here) (told_of after) ⊎ NoTurn sid answer here.node after.node (told_of here) (told_of after)) → AreWorld here.moment here other w → WroteIn sid answer here after turned → LeadsTo x w (AreWorld here.moment after other)
+    by_turn (inl had) h2 wrote = turn_led canonical_reading here.moment here.node other.node after.node (told_of here) (told_of after) (told_of other) w x h2 sid answer had t.same.config way answered quiet only wrote
+    by_turn (inr none) h2 wrote = none_led canonical_reading here.moment here.node other.node after.node (told_of here) (told_of after) (told_of other) w x h2 sid answer none
+
+-- FollowedBy of a pair says so of the links too; here of the other node alone
+abbrev pub Follows : Half → Half → Bool → Type 0
+Follows other other_after true = Accepted other other_after
+Follows other other_after false = other_after ≡ other
+
+stays_there : (other other_after : Half) (more : Bool) → more ≡ false → Follows other other_after more → other_after ≡ other
+stays_there other other_after true is follows = absurd cc
+stays_there other other_after false is follows = follows
+
+takes_there : (other other_after : Half) (more : Bool) → more ≡ true → Follows other other_after more → Accepted other other_after
+takes_there other other_after true is follows = follows
+takes_there other other_after false is follows = absurd cc
+
+-- A choice, and what the other node did about it.
+module _ (choice_is : ChoiceIs) (now : ℕ) (here after other other_after : Half) (w : World) (x : At) (h : AreWorld now here other w) where
+  -- what is asked of both nodes before and behind it
+  pub record CanChoose : Type 0 where
+    pub moment : here.moment ≡ now
+    pub counted : last_of after.lines ≡ length after.node.sessions
+    pub counted_there : last_of other_after.lines ≡ length other_after.node.sessions
+    pub greets : EachFrame (hello (own_home (entries_of here)) here.node.config.block)
+
+  abbrev Led : Type 0
+  Led = LeadsTo x w (IsWorldOf canonical_reading now after.node other_after.node (told_of after) (told_of other_after))
+
+  module _ (can : CanChoose) (answer : Handled) (stays : (sid : Sid) → answer ≡ handled.Lost sid → ⊥) (chose : Chose answer here after) (follows : Follows other other_after (ltb (length here.node.sessions) (length after.node.sessions))) where
+    no_more : after.node.sessions ≡ here.node.sessions → other_after ≡ other
+    no_more same = stays_there other other_after (ltb (length here.node.sessions) (length after.node.sessions)) (le-ltb (length here.node.sessions) (length after.node.sessions) (omega (arith, ap length same))) follows
+
+    with_other : other_after ≡ other → LeadsTo x w (IsWorldOf canonical_reading now after.node other.node (told_of after) (told_of other)) → Led
+    with_other same led = subst (λ (half : Half). LeadsTo x w (IsWorldOf canonical_reading now after.node half.node (told_of after) (told_of half))) (sym same) led
+
+    -- nothing was due
+    pub idle_led : answer ≡ handled.Idle → Led
+    idle_led is =
+        let same : after ≡ here = (chose.idle is).1 in
+        with_other (no_more (ap (λ (half : Half). half.node.sessions) same))
+        (subst (λ (half : Half). LeadsTo x w (IsWorldOf canonical_reading now half.node other.node (told_of half) (told_of other))) (sym same) (record { last = w; leads = leads_none x w; so = h }))
+
+    module _ (row : Row) (due : next_due (entries_of here) now (busy_in here.node.sessions) ≡ Some row) where
+      began_led : (sid : Sid) → WasConnected (Unit {0}) (Unit {0}) canonical_reading now row answer here.node after.node (told_of here) (told_of after) sid → Led
+      began_led sid c = by_taken (takes_there other other_after (ltb (length here.node.sessions) (length after.node.sessions)) more follows) where
+        longer : length after.node.sessions ≡ suc (length here.node.sessions)
+        longer = omega (arith, ap length c.sessions, length-append here.node.sessions ((record { sid = sid; phase = c.phase }) ∷ []))
+
+        more : ltb (length here.node.sessions) (length after.node.sessions) ≡ true
+        more = lt-ltb (length here.node.sessions) (length after.node.sessions) (omega (arith, longer))
+
+        numbered : AreNumbered 1 after.node.sessions
+        numbered = by_made chose.made where
+          by_made : MadeSession (last_of here.lines) (last_of after.lines) here.node after.node → AreNumbered 1 after.node.sessions
+          by_made (inl one) = subst (AreNumbered 1) (sym one.opened.sessions)
+              (numbered_more 1 here.node.sessions (record { sid = record { number = last_of after.lines }; phase = one.opened.phase }) h.a.numbered (omega (arith, can.counted, longer)))
+          by_made (inr none) = absurd (omega (arith, ap (λ (l : List Session). length l) none.sessions, longer))
+
+        number : sid.number ≡ w.sessions
+        number = last_number 1 here.node.sessions (record { sid = sid; phase = c.phase }) (subst (AreNumbered 1) c.sessions numbered) ∙ omega (arith, h.sessions)
+
+        -- the session is one that the lines made in this call
+        fresh_here : MadeSession (last_of here.lines) (last_of after.lines) here.node after.node → IsFresh w.sessions (traffic_of here.lines)
+        fresh_here (inl one) =
+            let last : last_of after.lines ≡ w.sessions = omega (arith, can.counted, longer, h.sessions) in
+            subst (λ (n : ℕ). IsFresh n (traffic_of here.lines)) last (chose.unused one.newer)
+        fresh_here (inr none) = absurd (omega (arith, ap (λ (l : List Session). length l) none.sessions, longer))
+
+        by_taken : Accepted other other_after → Led
+        by_taken took = by_answer took.took.accepted where
+          last_there : TookSession handled.Went (last_of other.lines) (last_of other_after.lines) (counts_of other.lines) (counts_of other_after.lines) other.node other_after.node → last_of other_after.lines ≡ w.sessions
+          last_there session =
+              omega (arith, can.counted_there, ap (λ (l : List Session). length l) session.sessions, length-append other.node.sessions ((record { sid = record { number = last_of other_after.lines }; phase = Fresh }) ∷ []), h.sessions, h.count)
+
+          by_answer : TookSession handled.Went (last_of other.lines) (last_of other_after.lines) (counts_of other.lines) (counts_of other_after.lines) other.node other_after.node
+              ⊎ HadNone handled.Went (last_of other.lines) (last_of other_after.lines) (counts_of other.lines) (counts_of other_after.lines) other.node other_after.node → Led
+          by_answer (inl session) =
+              connected_led choice_is canonical_reading now here.node other.node after.node other_after.node (told_of here) (told_of after) (told_of other) (told_of other_after) w x h row due sid answer handled.Went
+              (last_of other.lines) (last_of other_after.lines) (counts_of other.lines) (counts_of other_after.lines) (record {
+                connected = c;
+                config = chose.same.config;
+                took = session;
+                entries_there = ap (λ r. r.entries) took.took.registry;
+                holdings_there = took.took.holdings;
+                config_there = took.took.same.config;
+                shelf_there = ap (λ (m : MemoryFiles). (files.state_of m).shelf) took.took.files;
+                traffic_there = took.took.traffic;
+                number = number;
+                number_there = last_there session;
+                unused = fresh_here chose.made;
+                unused_there = subst (λ (n : ℕ). IsFresh n (traffic_of other.lines)) (last_there session) (subst (IsFresh (last_of other_after.lines)) took.took.traffic (took.took.unused session.made));
+                written = can.greets;
+              })
+          by_answer (inr none) = let clash : handled.Went ≡ handled.NoMore = none.answered in absurd cc
+
+      chosen_led : WasChosen (Unit {0}) (Unit {0}) canonical_reading now row answer here.node after.node (told_of here) (told_of after) → Led
+      chosen_led (inl began) = by_began began.began where
+        by_began : WasConnected (Unit {0}) (Unit {0}) canonical_reading now row answer here.node after.node (told_of here) (told_of after) began.sid
+            ⊎ WasLost (Unit {0}) (Unit {0}) canonical_reading now row answer here.node after.node (told_of here) (told_of after) began.sid → Led
+        by_began (inl c) = began_led began.sid c
+        by_began (inr lost) = absurd (stays began.sid lost.answered)
+      chosen_led (inr (inl held)) =
+          with_other (no_more held.kept.sessions) (placed_led choice_is canonical_reading now here.node other.node after.node (told_of here) (told_of after) (told_of other) w x h row due held.placed held.kept chose.same.config
+          (ap (λ (t : Told). t.shelf) held.untouched) (ap (λ (t : Told). t.traffic) held.untouched))
+      chosen_led (inr (inr failed)) =
+          with_other (no_more failed.kept.sessions) (placed_led choice_is canonical_reading now here.node other.node after.node (told_of here) (told_of after) (told_of other) w x h row due failed.placed failed.kept chose.same.config
+          failed.shelf (failed.traffic tt))
+
+    pub chose_led : Led
+    chose_led = by_due (next_due (entries_of here) here.moment (busy_in here.node.sessions)) refl where
+      by_due : (found : Option Row) → next_due (entries_of here) here.moment (busy_in here.node.sessions) ≡ found → Led
+      by_due None is = idle_led (chose.none is)
+      by_due (Some row) is =
+          chosen_led row (ap (λ (m : ℕ). next_due (entries_of here) m (busy_in here.node.sessions)) (sym can.moment) ∙ is)
+          (subst (λ (m : ℕ). WasChosen (Unit {0}) (Unit {0}) canonical_reading m row answer here.node after.node (told_of here) (told_of after)) can.moment (chose.chosen row is))
