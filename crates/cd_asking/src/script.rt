@@ -5,7 +5,7 @@ ghost use Rattle.cd_outside.specs.Counts.{Rose};
 ghost use Rattle.cd_shown.specs.declared.file.Shown.TheVariants as shows;
 ghost use Rattle.cd_asking.specs.Asked.{IsRead, IsDrilled};
 
-use cd_drill::{Bench, DrillFault, drill};
+use cd_drill::{DrillFault, rehearse};
 use cd_outside::Files;
 use cd_shown::Shown;
 use cd_types::{Bytes, NoMemory};
@@ -66,8 +66,7 @@ pub(crate) fn drilled(alloc: Global, script: &[u8]) -> Result<Shown, NoMemory>
     ensures shown { IfOk result (IsDrilled (Unit {0}) (Some script.now)) }
     ensures failed { IfOk result (λ shown. shown ≡ Shown.Failed → ⊥) }
 {
-    let mut bench = Bench::new();
-    match drill(alloc, script, &mut bench) {
+    match rehearse(alloc, script) {
         Ok(report) => Ok(Shown::Report(Bytes::new(report))),
         Err(DrillFault::ScriptText(at)) => Ok(Shown::NoScript(at)),
         Err(DrillFault::NoMemory) => Err(NoMemory),

@@ -37,6 +37,11 @@ pub record WasDrilled (script report : List ℕ) (bench : Bench) : Type 0 where
   pub run : WasRun script report course
   pub left : bench.course ≡ Some course
 
+-- This is the report of a drill of a script.
+pub record WasReported (script report : List ℕ) : Type 0 where
+  pub course : Course
+  pub run : WasRun script report course
+
 -- it tells the first line that is none; of memory nothing is said
 abbrev pub IsFaultOf : Orders → DrillFault → Type 0
 IsFaultOf orders (ScriptText at) = orders ≡ Err at

@@ -86,6 +86,11 @@ fn make_turns(pair: &mut Pair, count: u64) -> Result<u64, DrillFault>
 }
 
 impl Course {
+    /// Its life ends.
+    pub fn close(self) {
+        drop(self);
+    }
+
     /// The beginning of a drill.
     pub fn begin(alloc: Global) -> Result<Course, DrillFault>
         ensures rest { IfOk result (λ course. AreAtRest course.pair) }

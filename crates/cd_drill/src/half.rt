@@ -41,6 +41,21 @@ pub struct Half {
     moment: Moment,
 }
 
+/// Ends the life of a disk. A device has many parts, and what ends it is laid out wherever it ends: so each kind ends in one place.
+fn close_disk(disk: MemoryDisk) {
+    drop(disk);
+}
+
+/// Ends the life of files.
+fn close_files(files: MemoryFiles) {
+    drop(files);
+}
+
+/// Ends the life of lines.
+fn close_lines(lines: MemoryLines) {
+    drop(lines);
+}
+
 /// No call fails.
 fn quiet(alloc: Global) -> FaultScript
     ensures { result ≡ [] }
@@ -76,13 +91,19 @@ fn empty(alloc: Global, config: Config, now: Moment) -> Result<Half, Fault>
         return Err(Fault::NoMemory);
     };
     let Ok(files) = MemoryFiles::new(alloc, quiet(alloc)) else {
+        close_disk(disk);
         return Err(Fault::NoMemory);
     };
     let Ok(lines) = MemoryLines::new(alloc, quiet(alloc)) else {
+        close_disk(disk);
+        close_files(files);
         return Err(Fault::NoMemory);
     };
     let mut beat = Beat::new();
     let Ok(registry) = Registry::make(alloc, Canonical, &mut disk, &mut beat) else {
+        close_disk(disk);
+        close_files(files);
+        close_lines(lines);
         return Err(Fault::NoMemory);
     };
     Ok(Half {
@@ -119,8 +140,16 @@ impl Half {
         law_of_doings();
         match half.command(alloc, Command::Init(name, number)) {
             Ok(_) => Ok(half),
-            Err(fault) => Err(fault),
+            Err(fault) => {
+                half.close();
+                Err(fault)
+            }
         }
+    }
+
+    /// Its life ends.
+    pub fn close(self) {
+        drop(self);
     }
 
     /// The node.

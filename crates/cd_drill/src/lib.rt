@@ -15,4 +15,4 @@ mod running;
 pub use bench::Bench;
 pub use fault::DrillFault;
 pub use half::Half;
-pub use running::drill;
+pub use running::{drill, rehearse};

@@ -228,7 +228,10 @@ impl Pair {
                 b: other,
                 links: Vec::new(alloc),
             }),
-            Err(fault) => Err(fault),
+            Err(fault) => {
+                one.close();
+                Err(fault)
+            }
         }
     }
 

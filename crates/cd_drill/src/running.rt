@@ -6,7 +6,7 @@ ghost use Rattle.cd_drill.specs.Course.{Ran};
 ghost use Rattle.cd_drill.specs.Pairs.{AreAtRest};
 ghost use Rattle.cd_drill.specs.Kept.{is_reserved};
 ghost use Rattle.cd_drill.specs.Report.{report_of, AreNamed};
-ghost use Rattle.cd_drill.specs.Drilled.{WasRun, WasDrilled, IsFaultOf};
+ghost use Rattle.cd_drill.specs.Drilled.{WasRun, WasDrilled, WasReported, IsFaultOf};
 
 use crate::bench::Bench;
 use crate::course::Course;
@@ -21,6 +21,17 @@ use std::alloc::Global;
 struct Told {
     course: Course,
     report: Vec<u8>,
+}
+
+impl Told {
+    /// The report. The life of the nodes ends.
+    fn into_report(self) -> Vec<u8>
+        ensures { result ≡ self.report }
+    {
+        let Told { course, report } = self;
+        course.close();
+        report
+    }
 }
 
 /// The lines of a script.
@@ -45,7 +56,10 @@ fn run(alloc: Global, lines: &[Numbered<'_>]) -> Result<Course, NoMemory>
     };
     match course.run(alloc, lines) {
         Ok(()) => Ok(course),
-        Err(_) => Err(NoMemory),
+        Err(_) => {
+            course.close();
+            Err(NoMemory)
+        }
     }
 }
 
@@ -61,6 +75,7 @@ fn tell(alloc: Global, lines: &[Numbered<'_>]) -> Result<Told, NoMemory>
         Err(fault) => return Err(fault),
     };
     let Ok(report) = course.report(alloc) else {
+        course.close();
         return Err(NoMemory);
     };
     Ok(Told { course, report })
@@ -99,4 +114,16 @@ pub fn drill(alloc: Global, script: &[u8], bench: &mut Bench) -> Result<Vec<u8>,
     };
     bench.keep(told.course);
     Ok(told.report)
+}
+
+/// Runs a script over two nodes, as `drill` does, and reports what they recorded. The nodes aren't kept.
+#[tactic(none)]
+pub fn rehearse(alloc: Global, script: &[u8]) -> Result<Vec<u8>, DrillFault>
+    ensures report { IfOk result (λ report. WasReported script.now report.items) }
+    ensures fault { IfErr result (IsFaultOf (orders_of is_reserved script.now)) }
+{
+    match run_script(alloc, script) {
+        Ok(told) => Ok(told.into_report()),
+        Err(fault) => Err(fault),
+    }
 }

@@ -3,7 +3,7 @@
 #![tactic(auto)]
 
 use anyhow::Result;
-use cd_drill::{Bench, DrillFault, drill};
+use cd_drill::{DrillFault, rehearse};
 use std::alloc::Global;
 use std::io;
 
@@ -12,8 +12,7 @@ const BETWEEN: &str = "\n%%\n";
 
 // The report of a script, or why there is none.
 fn told(alloc: Global, script: &[u8]) -> Result<String> {
-    let mut bench = Bench::new();
-    match drill(alloc, script, &mut bench) {
+    match rehearse(alloc, script) {
         Ok(report) => Ok(String::from_utf8_lossy(alloc, &report)?),
         Err(DrillFault::ScriptText(at)) => Ok(format!(in alloc; "REFUSED TEXT ScriptText {at}\n")?),
         Err(DrillFault::NoMemory) => Ok(String::from_str(alloc, "NO MEMORY\n")?),

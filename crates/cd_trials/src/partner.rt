@@ -30,7 +30,10 @@ fn beta(alloc: Global) -> Result<Half, Fail>
     };
     match half.accept() {
         Ok(_) => Ok(half),
-        Err(_) => Err("no session".into()),
+        Err(_) => {
+            half.close();
+            Err("no session".into())
+        }
     }
 }
 
@@ -65,10 +68,18 @@ fn is_joined(bytes: &[u8], first: &[u8], second: &[u8]) -> bool {
 #[test]
 fn a_frame_that_no_rule_allows(rt: HostRuntime) -> Result<(), Fail> {
     let mut half = beta(rt.alloc())?;
-    assert_eq!(rt; hears(&mut half, HELLO)?, Handled::Went);
-    assert!(rt; !is_closed(&half));
-    hears(&mut half, ACK)?;
-    assert!(rt; is_closed(&half));
+    let tried = no_rule_allows(&rt, &mut half);
+    half.close();
+    tried
+}
+
+fn no_rule_allows(rt: &HostRuntime, half: &mut Half) -> Result<(), Fail>
+    requires { IsAtRest half.old }
+{
+    assert_eq!(rt; hears(half, HELLO)?, Handled::Went);
+    assert!(rt; !is_closed(half));
+    hears(half, ACK)?;
+    assert!(rt; is_closed(half));
     assert_eq!(rt; half.book().len(), 1);
     assert!(rt; half.given(FIRST) == WELCOME);
     Ok(())
@@ -78,11 +89,19 @@ fn a_frame_that_no_rule_allows(rt: HostRuntime) -> Result<(), Fail> {
 #[test]
 fn an_end_before_the_last_piece(rt: HostRuntime) -> Result<(), Fail> {
     let mut half = beta(rt.alloc())?;
-    hears(&mut half, HELLO)?;
-    assert_eq!(rt; hears(&mut half, STEP)?, Handled::Went);
+    let tried = ends_early(&rt, &mut half);
+    half.close();
+    tried
+}
+
+fn ends_early(rt: &HostRuntime, half: &mut Half) -> Result<(), Fail>
+    requires { IsAtRest half.old }
+{
+    hears(half, HELLO)?;
+    assert_eq!(rt; hears(half, STEP)?, Handled::Went);
     assert_eq!(rt; half.book().len(), 2);
-    hears(&mut half, END)?;
-    assert!(rt; is_closed(&half));
+    hears(half, END)?;
+    assert!(rt; is_closed(half));
     assert_eq!(rt; half.book().len(), 2);
     assert_eq!(rt; half.file(b"b.txt"), Some([].as_slice()));
     assert!(rt; is_joined(half.given(FIRST), WELCOME, READY));
@@ -93,9 +112,17 @@ fn an_end_before_the_last_piece(rt: HostRuntime) -> Result<(), Fail> {
 #[test]
 fn bytes_that_are_no_frame(rt: HostRuntime) -> Result<(), Fail> {
     let mut half = beta(rt.alloc())?;
-    hears(&mut half, HELLO)?;
-    assert_eq!(rt; hears(&mut half, NO_FRAME)?, Handled::Lost(FIRST));
-    assert!(rt; is_closed(&half));
+    let tried = is_no_frame(&rt, &mut half);
+    half.close();
+    tried
+}
+
+fn is_no_frame(rt: &HostRuntime, half: &mut Half) -> Result<(), Fail>
+    requires { IsAtRest half.old }
+{
+    hears(half, HELLO)?;
+    assert_eq!(rt; hears(half, NO_FRAME)?, Handled::Lost(FIRST));
+    assert!(rt; is_closed(half));
     assert_eq!(rt; half.book().len(), 1);
     Ok(())
 }
@@ -104,10 +131,18 @@ fn bytes_that_are_no_frame(rt: HostRuntime) -> Result<(), Fail> {
 #[test]
 fn files_that_fail_when_asked(rt: HostRuntime) -> Result<(), Fail> {
     let mut half = beta(rt.alloc())?;
-    hears(&mut half, HELLO)?;
+    let tried = fail_when_asked(&rt, &mut half);
+    half.close();
+    tried
+}
+
+fn fail_when_asked(rt: &HostRuntime, half: &mut Half) -> Result<(), Fail>
+    requires { IsAtRest half.old }
+{
+    hears(half, HELLO)?;
     half.fail_files(1)?;
-    assert_eq!(rt; hears(&mut half, STEP)?, Handled::Aborted(FIRST));
-    assert!(rt; is_closed(&half));
+    assert_eq!(rt; hears(half, STEP)?, Handled::Aborted(FIRST));
+    assert!(rt; is_closed(half));
     assert_eq!(rt; half.book().len(), 1);
     assert!(rt; is_joined(half.given(FIRST), WELCOME, TROUBLE));
     Ok(())
@@ -117,10 +152,18 @@ fn files_that_fail_when_asked(rt: HostRuntime) -> Result<(), Fail> {
 #[test]
 fn files_that_fail_when_cut(rt: HostRuntime) -> Result<(), Fail> {
     let mut half = beta(rt.alloc())?;
-    hears(&mut half, HELLO)?;
+    let tried = fail_when_cut(&rt, &mut half);
+    half.close();
+    tried
+}
+
+fn fail_when_cut(rt: &HostRuntime, half: &mut Half) -> Result<(), Fail>
+    requires { IsAtRest half.old }
+{
+    hears(half, HELLO)?;
     half.fail_files(2)?;
-    assert_eq!(rt; hears(&mut half, STEP)?, Handled::Aborted(FIRST));
-    assert!(rt; is_closed(&half));
+    assert_eq!(rt; hears(half, STEP)?, Handled::Aborted(FIRST));
+    assert!(rt; is_closed(half));
     assert_eq!(rt; half.book().len(), 2);
     assert!(rt; is_joined(half.given(FIRST), WELCOME, TROUBLE));
     Ok(())
