@@ -9,6 +9,7 @@ use cd_outside::Sid;
 use cd_plain::Handled;
 use cd_types::{Moment, NodeName};
 use std::alloc::Global;
+use std::process::Abort;
 use std::test::Fail;
 
 /// The first session of a node.
@@ -73,7 +74,7 @@ fn a_frame_that_no_rule_allows(rt: HostRuntime) -> Result<(), Fail> {
     tried
 }
 
-fn no_rule_allows(rt: &HostRuntime, half: &mut Half) -> Result<(), Fail>
+fn no_rule_allows(rt: &impl Abort, half: &mut Half) -> Result<(), Fail>
     requires { IsAtRest half.old }
 {
     assert_eq!(rt; hears(half, HELLO)?, Handled::Went);
@@ -94,7 +95,7 @@ fn an_end_before_the_last_piece(rt: HostRuntime) -> Result<(), Fail> {
     tried
 }
 
-fn ends_early(rt: &HostRuntime, half: &mut Half) -> Result<(), Fail>
+fn ends_early(rt: &impl Abort, half: &mut Half) -> Result<(), Fail>
     requires { IsAtRest half.old }
 {
     hears(half, HELLO)?;
@@ -117,7 +118,7 @@ fn bytes_that_are_no_frame(rt: HostRuntime) -> Result<(), Fail> {
     tried
 }
 
-fn is_no_frame(rt: &HostRuntime, half: &mut Half) -> Result<(), Fail>
+fn is_no_frame(rt: &impl Abort, half: &mut Half) -> Result<(), Fail>
     requires { IsAtRest half.old }
 {
     hears(half, HELLO)?;
@@ -136,7 +137,7 @@ fn files_that_fail_when_asked(rt: HostRuntime) -> Result<(), Fail> {
     tried
 }
 
-fn fail_when_asked(rt: &HostRuntime, half: &mut Half) -> Result<(), Fail>
+fn fail_when_asked(rt: &impl Abort, half: &mut Half) -> Result<(), Fail>
     requires { IsAtRest half.old }
 {
     hears(half, HELLO)?;
@@ -157,7 +158,7 @@ fn files_that_fail_when_cut(rt: HostRuntime) -> Result<(), Fail> {
     tried
 }
 
-fn fail_when_cut(rt: &HostRuntime, half: &mut Half) -> Result<(), Fail>
+fn fail_when_cut(rt: &impl Abort, half: &mut Half) -> Result<(), Fail>
     requires { IsAtRest half.old }
 {
     hears(half, HELLO)?;
