@@ -51,8 +51,10 @@ impl Machine {
 
     /// Puts a line behind what the file of this name holds.
     pub fn put_line(&mut self, name: &[u8], line: &[u8]) -> Result<(), NoMemory> {
-        let held = self.files.get(name).unwrap_or(b"");
-        let mut bytes = Vec::from_slice(self.alloc, held)?;
+        let mut bytes = Vec::new(self.alloc);
+        if let Some(held) = self.files.get(name) {
+            bytes.extend_from_slice(held)?;
+        }
         bytes.extend_from_slice(line)?;
         bytes.push(b'\n')?;
         self.files.put(name, &bytes)

@@ -1,8 +1,8 @@
 //! Says what a node answers, and no part of the node: its input is texts, each but the last with a line `%%` behind it, and its
 //! output has the answers to each and a line `%%`. The first line of a text is the home of a run over devices in memory, `BLANK`
 //! or `ALPHA`. Lines behind it may put files: `text NAME REST` one of this name that holds REST, and `line NAME REST` the line REST
-//! behind what it holds; `fail K` has the K-th next call of the files fail. What follows is the input of the run. An answer is the output of the run, and a line with its exit status
-//! and the length of the journal that it leaves, in bytes.
+//! behind what it holds; `fail K` has the K-th next call of the files fail. What follows is the input of the run. An answer is the
+//! output of the run, and a line with its exit status and the length of the journal that it leaves, in bytes.
 #![tactic(auto)]
 
 mod machine;
