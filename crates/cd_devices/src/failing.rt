@@ -43,7 +43,9 @@ fn disk_stops(rt: &impl Abort, disk: &mut MemoryDisk) -> Result<(), Fail> {
 #[test]
 fn a_disk_stops(rt: HostRuntime) -> Result<(), Fail> {
     let alloc = rt.alloc();
-    let mut disk = MemoryDisk::new(alloc, quiet(alloc))?;
+    let Ok(mut disk) = MemoryDisk::new(alloc, quiet(alloc)) else {
+        return Err(Fail::from("no disk"));
+    };
     let outcome = disk_stops(&rt, &mut disk);
     close_disk(disk);
     outcome
@@ -74,15 +76,19 @@ fn files_are_left(rt: &impl Abort, files: &mut MemoryFiles, beat: &mut Beat) -> 
     assert!(rt; files.write_at(b"a", 0, &[7, 7], beat).is_err());
     assert!(rt; files.stopped());
     assert!(rt; !files.starved());
-    assert_eq!(rt; files.get(b"a"), Some([7, 7, 3, 4].as_slice()));
+    let under_way = Some([7, 7, 3, 4].as_slice());
+    let left = Some([251, 67, 3, 4].as_slice());
+    let other = Some([67, 202, 52].as_slice());
+    assert_eq!(rt; files.get(b"a"), under_way);
     files.crash(3);
-    assert_eq!(rt; files.get(b"a"), Some([251, 67, 3, 4].as_slice()));
-    assert_eq!(rt; files.get(b"b"), Some([67, 202, 52].as_slice()));
+    assert_eq!(rt; files.get(b"a"), left);
+    assert_eq!(rt; files.get(b"b"), other);
     files.remove(b"a", beat)?;
     assert_eq!(rt; files.get(b"a"), None);
-    assert_eq!(rt; files.name(0), Some(b"b".as_slice()));
+    let name = Some(b"b".as_slice());
+    assert_eq!(rt; files.name(0), name);
     files.crash(0);
-    assert_eq!(rt; files.get(b"a"), Some([251, 67, 3, 4].as_slice()));
+    assert_eq!(rt; files.get(b"a"), left);
     Ok(())
 }
 
@@ -97,7 +103,9 @@ fn both_files(rt: &impl Abort, files: &mut MemoryFiles) -> Result<(), Fail> {
 #[test]
 fn files_stop(rt: HostRuntime) -> Result<(), Fail> {
     let alloc = rt.alloc();
-    let mut files = MemoryFiles::new(alloc, quiet(alloc))?;
+    let Ok(mut files) = MemoryFiles::new(alloc, quiet(alloc)) else {
+        return Err(Fail::from("no files"));
+    };
     let outcome = both_files(&rt, &mut files);
     close_files(files);
     outcome
@@ -131,7 +139,9 @@ fn lines_give(rt: &impl Abort, lines: &mut MemoryLines) -> Result<(), Fail> {
 #[test]
 fn lines_give_what_is_offered(rt: HostRuntime) -> Result<(), Fail> {
     let alloc = rt.alloc();
-    let mut lines = MemoryLines::new(alloc, quiet(alloc))?;
+    let Ok(mut lines) = MemoryLines::new(alloc, quiet(alloc)) else {
+        return Err(Fail::from("no lines"));
+    };
     let outcome = lines_give(&rt, &mut lines);
     close_lines(lines);
     outcome
@@ -147,7 +157,8 @@ fn spawner_answers(rt: &impl Abort, spawner: &mut MemorySpawner) -> Result<(), F
     spawner.fail(1)?;
     assert_eq!(rt; spawner.run(b"d"), Outcome::Failed);
     assert_eq!(rt; spawner.run(b"e"), Outcome::Exit(0));
-    assert_eq!(rt; spawner.started(2), Some(b"e".as_slice()));
+    let fifth = Some(b"e".as_slice());
+    assert_eq!(rt; spawner.started(2), fifth);
     assert_eq!(rt; spawner.started(3), None);
     assert!(rt; !spawner.starved());
     Ok(())
@@ -156,7 +167,9 @@ fn spawner_answers(rt: &impl Abort, spawner: &mut MemorySpawner) -> Result<(), F
 #[test]
 fn a_spawner_answers_what_was_set(rt: HostRuntime) -> Result<(), Fail> {
     let alloc = rt.alloc();
-    let mut spawner = MemorySpawner::new(alloc, quiet(alloc))?;
+    let Ok(mut spawner) = MemorySpawner::new(alloc, quiet(alloc)) else {
+        return Err(Fail::from("no spawner"));
+    };
     let outcome = spawner_answers(&rt, &mut spawner);
     close_spawner(spawner);
     outcome
@@ -193,7 +206,9 @@ fn steady_sink_takes(rt: &impl Abort, sink: &mut SteadySink, bytes: &[u8]) -> Re
 #[test]
 fn the_steady_forms(rt: HostRuntime) -> Result<(), Fail> {
     let alloc = rt.alloc();
-    let mut disk = SteadyDisk::new(alloc)?;
+    let Ok(mut disk) = SteadyDisk::new(alloc) else {
+        return Err(Fail::from("no disk"));
+    };
     let kept = steady_disk_keeps(&rt, &mut disk);
     close_steady_disk(disk);
     kept?;

@@ -31,7 +31,9 @@ fn files_are_written(rt: &impl Abort, files: &mut SteadyFiles) -> Result<(), Fai
 // Eleven bytes are taken in all: of each call those of its name, and those that it writes or by which a file gets longer.
 #[test]
 fn files_keep_their_names_in_order(rt: HostRuntime) -> Result<(), Fail> {
-    let mut files = SteadyFiles::new(rt.alloc())?;
+    let Ok(mut files) = SteadyFiles::new(rt.alloc()) else {
+        return Err(Fail::from("no files"));
+    };
     let outcome = files_are_written(&rt, &mut files);
     close_steady_files(files);
     outcome
@@ -62,7 +64,9 @@ fn lines_give(rt: &impl Abort, lines: &mut SteadyLines) -> Result<(), Fail> {
 // The piece of the second session comes only once it was given three bytes.
 #[test]
 fn lines_give_what_is_offered(rt: HostRuntime) -> Result<(), Fail> {
-    let mut lines = SteadyLines::new(rt.alloc())?;
+    let Ok(mut lines) = SteadyLines::new(rt.alloc()) else {
+        return Err(Fail::from("no lines"));
+    };
     let outcome = lines_give(&rt, &mut lines);
     close_steady_lines(lines);
     outcome
@@ -75,14 +79,17 @@ fn spawner_answers(rt: &impl Abort, spawner: &mut SteadySpawner) -> Result<(), F
     assert_eq!(rt; spawner.run(b"a"), Outcome::Killed);
     spawner.start(b"b")?;
     assert_eq!(rt; spawner.run(b"c"), Outcome::Exit(0));
-    assert_eq!(rt; spawner.started(1), Some(b"b".as_slice()));
+    let second = Some(b"b".as_slice());
+    assert_eq!(rt; spawner.started(1), second);
     assert_eq!(rt; spawner.started(3), None);
     Ok(())
 }
 
 #[test]
 fn a_spawner_answers_what_was_set(rt: HostRuntime) -> Result<(), Fail> {
-    let mut spawner = SteadySpawner::new(rt.alloc())?;
+    let Ok(mut spawner) = SteadySpawner::new(rt.alloc()) else {
+        return Err(Fail::from("no spawner"));
+    };
     let outcome = spawner_answers(&rt, &mut spawner);
     close_steady_spawner(spawner);
     outcome
