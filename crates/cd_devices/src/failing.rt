@@ -51,51 +51,38 @@ fn a_disk_stops(rt: HostRuntime) -> Result<(), Fail> {
     outcome
 }
 
-fn files_are_written(
-    rt: &impl Abort,
-    files: &mut MemoryFiles,
-    beat: &mut Beat,
-) -> Result<(), Fail> {
+fn files_stop_within(rt: &impl Abort, files: &mut MemoryFiles) -> Result<(), Fail> {
+    let mut beat = Beat::new();
     files.put(b"a", &[1, 2, 3])?;
-    files.write_at(b"a", 3, &[4], beat)?;
-    files.sync(b"a", beat)?;
-    files.write_at(b"b", 2, &[9], beat)?;
-    assert_eq!(rt; files.get(b"b"), Some([0, 0, 9].as_slice()));
-    assert_eq!(rt; files.name(1), Some(b"b".as_slice()));
+    files.write_at(b"a", 3, &[4], &mut beat)?;
+    files.sync(b"a", &mut beat)?;
+    files.write_at(b"b", 2, &[9], &mut beat)?;
+    let second = Some(b"b".as_slice());
+    let written = Some([0, 0, 9].as_slice());
+    assert_eq!(rt; files.get(b"b"), written);
+    assert_eq!(rt; files.name(1), second);
     assert_eq!(rt; files.name(2), None);
     let mut into = [0, 0];
     assert_eq!(rt; files.read(b"b", 2, &mut into)?, 1);
     assert_eq!(rt; files.size(b"c")?, None);
-    Ok(())
-}
-
-fn files_are_left(rt: &impl Abort, files: &mut MemoryFiles, beat: &mut Beat) -> Result<(), Fail> {
     files.fail(1)?;
-    assert!(rt; files.cut(b"a", 0, beat).is_err());
+    assert!(rt; files.cut(b"a", 0, &mut beat).is_err());
     files.stop_at(5);
-    assert!(rt; files.write_at(b"a", 0, &[7, 7], beat).is_err());
+    assert!(rt; files.write_at(b"a", 0, &[7, 7], &mut beat).is_err());
     assert!(rt; files.stopped());
     assert!(rt; !files.starved());
     let under_way = Some([7, 7, 3, 4].as_slice());
     let left = Some([251, 67, 3, 4].as_slice());
-    let other = Some([67, 202, 52].as_slice());
+    let drawn = Some([67, 202, 52].as_slice());
     assert_eq!(rt; files.get(b"a"), under_way);
     files.crash(3);
     assert_eq!(rt; files.get(b"a"), left);
-    assert_eq!(rt; files.get(b"b"), other);
-    files.remove(b"a", beat)?;
+    assert_eq!(rt; files.get(b"b"), drawn);
+    files.remove(b"a", &mut beat)?;
     assert_eq!(rt; files.get(b"a"), None);
-    let name = Some(b"b".as_slice());
-    assert_eq!(rt; files.name(0), name);
+    assert_eq!(rt; files.name(0), second);
     files.crash(0);
     assert_eq!(rt; files.get(b"a"), left);
-    Ok(())
-}
-
-fn both_files(rt: &impl Abort, files: &mut MemoryFiles) -> Result<(), Fail> {
-    let mut beat = Beat::new();
-    files_are_written(rt, files, &mut beat)?;
-    files_are_left(rt, files, &mut beat)?;
     Ok(())
 }
 
@@ -106,7 +93,7 @@ fn files_stop(rt: HostRuntime) -> Result<(), Fail> {
     let Ok(mut files) = MemoryFiles::new(alloc, quiet(alloc)) else {
         return Err(Fail::from("no files"));
     };
-    let outcome = both_files(&rt, &mut files);
+    let outcome = files_stop_within(&rt, &mut files);
     close_files(files);
     outcome
 }
