@@ -9,7 +9,7 @@ mod machine;
 
 use anyhow::Result;
 use cd_types::NoMemory;
-use machine::Machine;
+use machine::{Machine, Ran};
 use std::alloc::Global;
 use std::io;
 
@@ -62,18 +62,53 @@ fn input_of<'a>(machine: &mut Machine, text: &'a str) -> Result<&'a str, NoMemor
     Ok(rest)
 }
 
-// What a run on a home with this name, or without one, answers to these lines and commands.
-fn answers(alloc: Global, is_named: bool, text: &str) -> Result<String, NoMemory> {
-    let mut machine = Machine::new(alloc)?;
-    if is_named {
-        let _ = machine.run(INIT)?;
+// Names the home.
+fn named(machine: &mut Machine) -> Result<(), NoMemory> {
+    match machine.run(INIT) {
+        Ok(ran) => {
+            ran.close();
+            Ok(())
+        }
+        Err(fault) => Err(fault),
     }
-    let input = input_of(&mut machine, text)?;
-    let ran = machine.run(input.as_bytes())?;
+}
+
+// What a run wrote, with its exit status and the length of the journal behind it.
+fn answer(alloc: Global, ran: &Ran, length: usize) -> Result<String, NoMemory> {
     let lines = String::from_utf8_lossy(alloc, ran.out.bytes())?;
     let code = ran.status.code();
-    let length = machine.bytes().len();
     Ok(format!(in alloc; "{lines}STATUS {code} JOURNAL {length}\n")?)
+}
+
+// What a machine answers to these lines and commands, once its home has a name or without one.
+fn answers_of(
+    alloc: Global,
+    machine: &mut Machine,
+    is_named: bool,
+    text: &str,
+) -> Result<String, NoMemory> {
+    if is_named {
+        named(machine)?;
+    }
+    let input = input_of(machine, text)?;
+    match machine.run(input.as_bytes()) {
+        Ok(ran) => {
+            let said = answer(alloc, &ran, machine.bytes().len());
+            ran.close();
+            said
+        }
+        Err(fault) => Err(fault),
+    }
+}
+
+// What a run on a home with this name, or without one, answers to these lines and commands.
+fn answers(alloc: Global, is_named: bool, text: &str) -> Result<String, NoMemory> {
+    let Ok(mut machine) = Machine::new(alloc) else {
+        return Err(NoMemory);
+    };
+    let said = answers_of(alloc, &mut machine, is_named, text);
+    machine.close();
+    said
 }
 
 // The answers to a text.

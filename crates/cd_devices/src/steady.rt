@@ -1,13 +1,12 @@
 //! The steady forms of files, lines and the spawner, within the room that was made for them.
+use crate::closing::{close_steady_files, close_steady_lines, close_steady_spawner};
 use cd_memory::{SteadyFiles, SteadyLines, SteadySpawner};
 use cd_outside::{Beat, Files, Lines, Outcome, Spawner};
+use std::process::Abort;
 use std::test::Fail;
 
-// Eleven bytes are taken in all: of each call those of its name, and those that it writes or by which a file gets longer.
-#[test]
-fn files_keep_their_names_in_order(rt: HostRuntime) -> Result<(), Fail> {
+fn files_are_written(rt: &impl Abort, files: &mut SteadyFiles) -> Result<(), Fail> {
     let mut beat = Beat::new();
-    let mut files = SteadyFiles::new(rt.alloc())?;
     files.put(b"b", &[1, 2])?;
     files.room(5, 11)?;
     files.write_at(b"a", 1, &[7], &mut beat)?;
@@ -29,10 +28,18 @@ fn files_keep_their_names_in_order(rt: HostRuntime) -> Result<(), Fail> {
     Ok(())
 }
 
-// The piece of the second session comes only once it was given three bytes.
+// Eleven bytes are taken in all: of each call those of its name, and those that it writes or by which a file gets longer.
 #[test]
-fn lines_give_what_is_offered(rt: HostRuntime) -> Result<(), Fail> {
-    let mut lines = SteadyLines::new(rt.alloc())?;
+fn files_keep_their_names_in_order(rt: HostRuntime) -> Result<(), Fail> {
+    let Ok(mut files) = SteadyFiles::new(rt.alloc()) else {
+        return Err(Fail::from("no files"));
+    };
+    let outcome = files_are_written(&rt, &mut files);
+    close_steady_files(files);
+    outcome
+}
+
+fn lines_give(rt: &impl Abort, lines: &mut SteadyLines) -> Result<(), Fail> {
     lines.room(8, 16)?;
     lines.offer(2, b"ab", Some((2, 3)))?;
     lines.incoming(1)?;
@@ -54,16 +61,36 @@ fn lines_give_what_is_offered(rt: HostRuntime) -> Result<(), Fail> {
     Ok(())
 }
 
+// The piece of the second session comes only once it was given three bytes.
 #[test]
-fn a_spawner_answers_what_was_set(rt: HostRuntime) -> Result<(), Fail> {
-    let mut spawner = SteadySpawner::new(rt.alloc())?;
+fn lines_give_what_is_offered(rt: HostRuntime) -> Result<(), Fail> {
+    let Ok(mut lines) = SteadyLines::new(rt.alloc()) else {
+        return Err(Fail::from("no lines"));
+    };
+    let outcome = lines_give(&rt, &mut lines);
+    close_steady_lines(lines);
+    outcome
+}
+
+fn spawner_answers(rt: &impl Abort, spawner: &mut SteadySpawner) -> Result<(), Fail> {
     spawner.next_outcome(Outcome::Killed)?;
     spawner.next_outcome(Outcome::Exit(3))?;
     spawner.room(3, 3)?;
     assert_eq!(rt; spawner.run(b"a"), Outcome::Killed);
     spawner.start(b"b")?;
     assert_eq!(rt; spawner.run(b"c"), Outcome::Exit(0));
-    assert_eq!(rt; spawner.started(1), Some(b"b".as_slice()));
+    let second = Some(b"b".as_slice());
+    assert_eq!(rt; spawner.started(1), second);
     assert_eq!(rt; spawner.started(3), None);
     Ok(())
+}
+
+#[test]
+fn a_spawner_answers_what_was_set(rt: HostRuntime) -> Result<(), Fail> {
+    let Ok(mut spawner) = SteadySpawner::new(rt.alloc()) else {
+        return Err(Fail::from("no spawner"));
+    };
+    let outcome = spawner_answers(&rt, &mut spawner);
+    close_steady_spawner(spawner);
+    outcome
 }

@@ -2,7 +2,7 @@
 use cd_frames::{
     Frame, FrameFault, Hello, Reader, RejectCause, Welcome, symbols_of, write_frame, write_symbols,
 };
-use cd_types::{Cause, Disp, Key, NodeName, Outcomes, ProcNo, TaskKind};
+use cd_types::{Cause, Disp, Key, NodeName, Outcomes, ProcNo, Symbols, TaskKind};
 use std::alloc::Global;
 use std::process::Abort;
 use std::test::Fail;
@@ -297,6 +297,11 @@ fn a_fault_behind_frames(rt: HostRuntime) -> Result<(), Fail> {
     Ok(())
 }
 
+/// Drops the values. They have parts within parts, and what drops them all is laid out at each exit of the function that does.
+fn close_symbols(symbols: Symbols) {
+    drop(symbols);
+}
+
 /// The next frame is a StepSubmit with these symbols, and they are written as they came.
 fn symbols_are(
     rt: &impl Abort,
@@ -310,9 +315,14 @@ fn symbols_are(
     let Frame::StepSubmit(_, _, _, _, bytes) = frame else {
         return Err(Fail::from("no submission"));
     };
-    let symbols = symbols_of(alloc, bytes)?;
+    let symbols = match symbols_of(alloc, bytes) {
+        Ok(symbols) => symbols,
+        Err(fault) => return Err(Fail::from(fault)),
+    };
     let mut written = Vec::new(alloc);
-    write_symbols(&symbols, &mut written)?;
+    let outcome = write_symbols(&symbols, &mut written);
+    close_symbols(symbols);
+    outcome?;
     assert_eq!(rt; written.as_slice(), want);
     Ok(())
 }

@@ -1,5 +1,6 @@
 //! Submissions worked by hand: the texts that are kept of them.
-use cd_ast::{Process, print};
+use crate::closing::{close_command, close_options, close_process, print_and_close};
+use cd_ast::Process;
 use cd_commands::{Command, read_command};
 use cd_filing::{DEFAULT_INTERVAL, filled, is_push, with_options};
 use std::alloc::Global;
@@ -8,12 +9,14 @@ use std::test::Fail;
 /// The Process where it is a push, and where it still is one with its interval.
 fn push_of(process: Process) -> Option<Process> {
     if !is_push(&process, None) {
+        close_process(process);
         return None;
     }
     let kept = filled(process);
     if is_push(&kept, Some(DEFAULT_INTERVAL)) {
         Some(kept)
     } else {
+        close_process(kept);
         None
     }
 }
@@ -21,16 +24,31 @@ fn push_of(process: Process) -> Option<Process> {
 /// The push that a submission says, where it says one.
 fn submitted(command: Command) -> Option<Process> {
     match command {
-        Command::SubmitText(process, options) => push_of(with_options(process, &options)),
-        _ => None,
+        Command::SubmitText(process, options) => {
+            let process = with_options(process, &options);
+            close_options(options);
+            push_of(process)
+        }
+        other => {
+            close_command(other);
+            None
+        }
     }
 }
 
 /// What is kept of a command; no bytes where it is no submission of a push.
-fn kept(alloc: Global, text: &[u8]) -> Result<Vec<u8>, Fail> {
-    match submitted(read_command(alloc, text)?) {
-        Some(process) => Ok(print(alloc, &process)?),
+fn kept_of(alloc: Global, command: Command) -> Result<Vec<u8>, Fail> {
+    match submitted(command) {
+        Some(process) => Ok(print_and_close(alloc, process)?),
         None => Ok(Vec::new(alloc)),
+    }
+}
+
+/// What is kept of the command that a text says.
+fn kept(alloc: Global, text: &[u8]) -> Result<Vec<u8>, Fail> {
+    match read_command(alloc, text) {
+        Ok(command) => kept_of(alloc, command),
+        Err(fault) => Err(Fail::from(fault)),
     }
 }
 

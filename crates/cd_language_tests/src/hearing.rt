@@ -1,4 +1,5 @@
 //! Texts of commands, with what they say, worked by hand.
+use crate::closing::{close_command, close_symbols, print_and_close};
 use cd_ast::{FaultName, print};
 use cd_commands::Command;
 use cd_hearing::{Heard, hear, read_as};
@@ -59,17 +60,26 @@ fn spoken(alloc: Global, command: &Command) -> Result<Vec<u8>, Fail> {
 
 /// The command that a text says; no bytes where it has a fault.
 fn written(alloc: Global, text: &[u8]) -> Result<Vec<u8>, Fail> {
-    match hear(alloc, text)? {
-        Heard::Command(command) => spoken(alloc, &command),
-        Heard::Fault(_, _) => Ok(Vec::new(alloc)),
+    match hear(alloc, text) {
+        Ok(Heard::Command(command)) => {
+            let line = spoken(alloc, &command);
+            close_command(command);
+            line
+        }
+        Ok(Heard::Fault(_, _)) => Ok(Vec::new(alloc)),
+        Err(fault) => Err(Fail::from(fault)),
     }
 }
 
 /// The fault of a text, where it has one.
 fn fault(alloc: Global, text: &[u8]) -> Result<Option<(FaultName, u64)>, Fail> {
-    match hear(alloc, text)? {
-        Heard::Command(_) => Ok(None),
-        Heard::Fault(name, at) => Ok(Some((name, at))),
+    match hear(alloc, text) {
+        Ok(Heard::Command(command)) => {
+            close_command(command);
+            Ok(None)
+        }
+        Ok(Heard::Fault(name, at)) => Ok(Some((name, at))),
+        Err(fault) => Err(Fail::from(fault)),
     }
 }
 
@@ -91,14 +101,24 @@ fn each_command_is_heard(rt: HostRuntime) -> Result<(), Fail> {
     Ok(())
 }
 
-/// What is printed of the Process that a text says, with this value of the name `to`; no bytes where it has a fault.
+/// What is printed of the Process that a text says with these values; no bytes where it has a fault.
+fn printed_with(alloc: Global, text: &[u8], values: &Symbols) -> Result<Vec<u8>, Fail> {
+    match read_as(alloc, text, values) {
+        Ok(Ok(process)) => Ok(print_and_close(alloc, process)?),
+        Ok(Err(_)) => Ok(Vec::new(alloc)),
+        Err(fault) => Err(Fail::from(fault)),
+    }
+}
+
+/// The same, with this value of the name `to`.
 fn printed(alloc: Global, text: &[u8], value: &[u8]) -> Result<Vec<u8>, Fail> {
     let mut values = Symbols::new(alloc);
-    values.set(b"to", value)?;
-    match read_as(alloc, text, &values)? {
-        Ok(process) => Ok(print(alloc, &process)?),
-        Err(_) => Ok(Vec::new(alloc)),
-    }
+    let printed = match values.set(b"to", value) {
+        Ok(()) => printed_with(alloc, text, &values),
+        Err(fault) => Err(Fail::from(fault)),
+    };
+    close_symbols(values);
+    printed
 }
 
 #[test]

@@ -1,6 +1,8 @@
+use crate::closing::close_symbols;
 use cd_lexer::{LexFault, SymFault, TokenKind, defaults, substitute, tokens};
 use cd_types::Symbols;
 use std::alloc::{AllocError, Global};
+use std::process::Abort;
 use std::test::Fail;
 
 /// The tokens of a text, each as its kind's letter and its places, or its fault.
@@ -206,37 +208,58 @@ const REFERENCES: [(&[u8], &[u8]); 36] = [
     (b"ab&ab.ab&", b"ab2ab&"),
 ];
 
-#[test]
-fn references_become_these(rt: HostRuntime) -> Result<(), Fail> {
-    let mut symbols = Symbols::new(rt.alloc());
+fn references(rt: &impl Abort, alloc: Global, symbols: &mut Symbols) -> Result<(), Fail> {
     symbols.set(b"a", b"1")?;
     symbols.set(b"ab", b"2")?;
     symbols.set(b"v", b"&a")?;
     for (text, want) in &REFERENCES {
-        let out = replaced(rt.alloc(), text, &symbols)?;
+        let out = replaced(alloc, text, symbols)?;
         assert_eq!(rt; out.as_slice(), *want, "{text:?}");
     }
     Ok(())
 }
 
 #[test]
-fn replaced_texts_have_a_greatest_length(rt: HostRuntime) -> Result<(), Fail> {
+fn references_become_these(rt: HostRuntime) -> Result<(), Fail> {
     let mut symbols = Symbols::new(rt.alloc());
-    let long = vec![in rt.alloc(); b'a'; 40_000]?;
+    let outcome = references(&rt, rt.alloc(), &mut symbols);
+    close_symbols(symbols);
+    outcome
+}
+
+fn a_value_twice(rt: &impl Abort, alloc: Global, symbols: &mut Symbols) -> Result<(), Fail> {
+    let long = vec![in alloc; b'a'; 40_000]?;
     symbols.set(b"a", &long)?;
-    let twice = replaced(rt.alloc(), b"&a&a", &symbols)?;
+    let twice = replaced(alloc, b"&a&a", symbols)?;
     assert_eq!(rt; twice.as_slice(), b"TooLong 80000".as_slice());
-    let mut text = vec![in rt.alloc(); b'a'; 65_536]?;
-    assert_eq!(rt; replaced(rt.alloc(), &text, &symbols)?.len(), 65_536);
+    Ok(())
+}
+
+fn one_byte_more(rt: &impl Abort, alloc: Global, symbols: &Symbols) -> Result<(), Fail> {
+    let mut text = vec![in alloc; b'a'; 65_536]?;
+    assert_eq!(rt; replaced(alloc, &text, symbols)?.len(), 65_536);
     text.push(b'&')?;
-    let longer = replaced(rt.alloc(), &text, &symbols)?;
+    let longer = replaced(alloc, &text, symbols)?;
     assert_eq!(rt; longer.as_slice(), b"TooLong 65537".as_slice());
     Ok(())
 }
 
-/// The values that a text gives, each as its name, `=` and the value.
-fn given(alloc: Global, text: &[u8]) -> Result<Vec<u8>, Fail> {
-    let symbols = defaults(alloc, text)?;
+fn greatest_lengths(rt: &impl Abort, alloc: Global, symbols: &mut Symbols) -> Result<(), Fail> {
+    a_value_twice(rt, alloc, symbols)?;
+    one_byte_more(rt, alloc, symbols)?;
+    Ok(())
+}
+
+#[test]
+fn replaced_texts_have_a_greatest_length(rt: HostRuntime) -> Result<(), Fail> {
+    let mut symbols = Symbols::new(rt.alloc());
+    let outcome = greatest_lengths(&rt, rt.alloc(), &mut symbols);
+    close_symbols(symbols);
+    outcome
+}
+
+/// These values, each as its name, `=` and the value.
+fn line_of(alloc: Global, symbols: &Symbols) -> Result<Vec<u8>, Fail> {
     let mut line = Vec::new(alloc);
     for place in 0..symbols.len() {
         let (name, value) = symbols.pair(place).ok_or("a pair")?;
@@ -246,6 +269,18 @@ fn given(alloc: Global, text: &[u8]) -> Result<Vec<u8>, Fail> {
         line.extend_from_slice(b" ")?;
     }
     Ok(line)
+}
+
+/// The line of the values that a text gives.
+fn given(alloc: Global, text: &[u8]) -> Result<Vec<u8>, Fail> {
+    match defaults(alloc, text) {
+        Ok(symbols) => {
+            let line = line_of(alloc, &symbols);
+            close_symbols(symbols);
+            line
+        }
+        Err(fault) => Err(Fail::from(fault)),
+    }
 }
 
 /// Texts with the values that they give.
@@ -290,12 +325,22 @@ fn texts_give_these_values(rt: HostRuntime) -> Result<(), Fail> {
     Ok(())
 }
 
+fn value_is_overridden(rt: &impl Abort, alloc: Global, symbols: &mut Symbols) -> Result<(), Fail> {
+    symbols.set(b"A", b"9")?;
+    let out = replaced(alloc, b"&a &b", symbols)?;
+    assert_eq!(rt; out.as_slice(), b"9 2".as_slice());
+    Ok(())
+}
+
 #[test]
 fn an_override_takes_the_place_of_a_value(rt: HostRuntime) -> Result<(), Fail> {
     let text = b"P PROCESS &a=1 &b=2";
-    let mut symbols = defaults(rt.alloc(), text)?;
-    symbols.set(b"A", b"9")?;
-    let out = replaced(rt.alloc(), b"&a &b", &symbols)?;
-    assert_eq!(rt; out.as_slice(), b"9 2".as_slice());
-    Ok(())
+    match defaults(rt.alloc(), text) {
+        Ok(mut symbols) => {
+            let outcome = value_is_overridden(&rt, rt.alloc(), &mut symbols);
+            close_symbols(symbols);
+            outcome
+        }
+        Err(fault) => Err(Fail::from(fault)),
+    }
 }

@@ -1,4 +1,6 @@
-use cd_ast::{CopyStep, Process, Stmt, Stmts, SubmitStep, TaskStep, What, print};
+//! Processes that are made part by part, and the texts that are printed of them.
+use crate::closing::{close_statements, close_symbols, print_and_close};
+use cd_ast::{CopyStep, Process, Stmt, Stmts, SubmitStep, TaskStep, What};
 use cd_types::{
     Bytes, Card, Day, Disp, Hold, Label, NodeName, Relation, Retain, Side, Start, Symbols, TaskKind,
 };
@@ -25,32 +27,60 @@ fn card(name: Label) -> Result<Card, Fail> {
     })
 }
 
-fn copy(alloc: Global, files: (&[u8], &[u8]), push: bool, ckpt: Option<u64>) -> Result<Stmt, Fail> {
-    let step = CopyStep {
+fn copy(alloc: Global, files: (&[u8], &[u8]), push: bool, ckpt: Option<u64>) -> Result<What, Fail> {
+    Ok(What::Copy(CopyStep {
         from: bytes(alloc, files.0)?,
         to: bytes(alloc, files.1)?,
         push,
         disp: Disp::Rpl,
         ckpt,
-    };
-    Ok(Stmt {
-        label: Some(label(b"s1")?),
-        what: What::Copy(step),
-    })
+    }))
+}
+
+/// Adds a statement, where what it says was made.
+fn add(stmts: &mut Vec<Stmt>, label: Option<Label>, what: Result<What, Fail>) -> Result<(), Fail> {
+    match what {
+        Ok(what) => {
+            stmts.push(Stmt { label, what })?;
+            Ok(())
+        }
+        Err(fault) => Err(fault),
+    }
+}
+
+/// What is printed of a Process with this card, where its statements were made.
+fn printed(alloc: Global, card: Card, stmts: Result<Vec<Stmt>, Fail>) -> Result<Vec<u8>, Fail> {
+    match stmts {
+        Ok(stmts) => {
+            let process = Process {
+                name: card.name,
+                card,
+                stmts: Stmts::new(stmts),
+            };
+            Ok(print_and_close(alloc, process)?)
+        }
+        Err(fault) => Err(fault),
+    }
+}
+
+fn one_copy(alloc: Global) -> Result<Vec<Stmt>, Fail> {
+    let s1 = label(b"s1")?;
+    let mut stmts = Vec::new(alloc);
+    let what = copy(alloc, (b"a.txt", b"b.txt"), true, Some(65_536));
+    match add(&mut stmts, Some(s1), what) {
+        Ok(()) => Ok(stmts),
+        Err(fault) => {
+            close_statements(stmts);
+            Err(fault)
+        }
+    }
 }
 
 /// The kept text of a Process with one COPY has these three lines.
 #[test]
 fn one_copy_has_three_lines(rt: HostRuntime) -> Result<(), Fail> {
-    let name = label(b"P1")?;
-    let mut stmts = Vec::new(rt.alloc());
-    stmts.push(copy(rt.alloc(), (b"a.txt", b"b.txt"), true, Some(65_536))?)?;
-    let process = Process {
-        name,
-        card: card(name)?,
-        stmts: Stmts::new(stmts),
-    };
-    let text = print(rt.alloc(), &process)?;
+    let card = card(label(b"P1")?)?;
+    let text = printed(rt.alloc(), card, one_copy(rt.alloc()))?;
     let expected = b"P1 PROCESS SNODE=BETA PRTY=10 CLASS=1 HOLD=NO RETAIN=NO
 S1 COPY FROM (FILE=\"a.txt\" PNODE) TO (FILE=\"b.txt\" SNODE DISP=RPL) CKPT=64K
 PEND
@@ -58,17 +88,6 @@ PEND
     assert_eq!(rt; text.len(), 137);
     assert!(rt; text.as_slice() == expected.as_slice());
     Ok(())
-}
-
-fn plain(what: What) -> Stmt {
-    Stmt { label: None, what }
-}
-
-fn labelled(name: &[u8], what: What) -> Result<Stmt, Fail> {
-    Ok(Stmt {
-        label: Some(label(name)?),
-        what,
-    })
 }
 
 fn task(alloc: Global, side: Side, command: &[u8], kind: TaskKind) -> Result<What, Fail> {
@@ -79,40 +98,87 @@ fn task(alloc: Global, side: Side, command: &[u8], kind: TaskKind) -> Result<Wha
     }))
 }
 
-fn submit(alloc: Global) -> Result<What, Fail> {
-    let mut symbols = Symbols::new(alloc);
+fn set_both(symbols: &mut Symbols) -> Result<(), Fail> {
     symbols.set(b"x", b"3")?;
     symbols.set(b"Y", b"a\"b")?;
-    Ok(What::Submit(SubmitStep {
-        file: bytes(alloc, b"n.cd")?,
-        side: Side::Snode,
-        snode: Some(NodeName::new(b"GAMMA").ok_or("no name")?),
-        prty: Some(3),
-        symbols,
-    }))
+    Ok(())
+}
+
+fn two_symbols(alloc: Global) -> Result<Symbols, Fail> {
+    let mut symbols = Symbols::new(alloc);
+    match set_both(&mut symbols) {
+        Ok(()) => Ok(symbols),
+        Err(fault) => {
+            close_symbols(symbols);
+            Err(fault)
+        }
+    }
+}
+
+fn submit(alloc: Global) -> Result<What, Fail> {
+    let snode = NodeName::new(b"GAMMA").ok_or("no name")?;
+    let file = bytes(alloc, b"n.cd")?;
+    match two_symbols(alloc) {
+        Ok(symbols) => Ok(What::Submit(SubmitStep {
+            file,
+            side: Side::Snode,
+            snode: Some(snode),
+            prty: Some(3),
+            symbols,
+        })),
+        Err(fault) => Err(fault),
+    }
 }
 
 fn add_copies(alloc: Global, stmts: &mut Vec<Stmt>) -> Result<(), Fail> {
-    stmts.push(copy(alloc, (b"say \"hi\"", b"b"), false, Some(10_485_760))?)?;
-    stmts.push(copy(alloc, (b"a", b"b"), true, Some(0))?)?;
-    stmts.push(copy(alloc, (b"a", b"b"), true, None)?)?;
+    let s1 = Some(label(b"s1")?);
+    add(
+        stmts,
+        s1,
+        copy(alloc, (b"say \"hi\"", b"b"), false, Some(10_485_760)),
+    )?;
+    add(stmts, s1, copy(alloc, (b"a", b"b"), true, Some(0)))?;
+    add(stmts, s1, copy(alloc, (b"a", b"b"), true, None))?;
     Ok(())
 }
 
 fn add_actions(alloc: Global, stmts: &mut Vec<Stmt>) -> Result<(), Fail> {
-    stmts.push(plain(task(alloc, Side::Snode, b"ls -l", TaskKind::Once)?))?;
-    stmts.push(labelled(b"J", task(alloc, Side::Pnode, b"ls", TaskKind::Job)?)?)?;
-    stmts.push(plain(submit(alloc)?))?;
+    let j = Some(label(b"J")?);
+    add(
+        stmts,
+        None,
+        task(alloc, Side::Snode, b"ls -l", TaskKind::Once),
+    )?;
+    add(stmts, j, task(alloc, Side::Pnode, b"ls", TaskKind::Job))?;
+    add(stmts, None, submit(alloc))?;
     Ok(())
 }
 
 fn add_jumps(stmts: &mut Vec<Stmt>) -> Result<(), Fail> {
-    stmts.push(plain(What::If(label(b"J")?, Relation::Ge, 4)))?;
-    stmts.push(plain(What::Else))?;
-    stmts.push(plain(What::Goto(label(b"L")?)))?;
-    stmts.push(plain(What::Eif))?;
-    stmts.push(labelled(b"l", What::Exit)?)?;
+    add(stmts, None, Ok(What::If(label(b"J")?, Relation::Ge, 4)))?;
+    add(stmts, None, Ok(What::Else))?;
+    add(stmts, None, Ok(What::Goto(label(b"L")?)))?;
+    add(stmts, None, Ok(What::Eif))?;
+    add(stmts, Some(label(b"l")?), Ok(What::Exit))?;
     Ok(())
+}
+
+fn add_all(alloc: Global, stmts: &mut Vec<Stmt>) -> Result<(), Fail> {
+    add_copies(alloc, stmts)?;
+    add_actions(alloc, stmts)?;
+    add_jumps(stmts)?;
+    Ok(())
+}
+
+fn each_statement(alloc: Global) -> Result<Vec<Stmt>, Fail> {
+    let mut stmts = Vec::new(alloc);
+    match add_all(alloc, &mut stmts) {
+        Ok(()) => Ok(stmts),
+        Err(fault) => {
+            close_statements(stmts);
+            Err(fault)
+        }
+    }
 }
 
 /// Each statement in its canonical form.
@@ -120,27 +186,19 @@ fn add_jumps(stmts: &mut Vec<Stmt>) -> Result<(), Fail> {
 fn each_statement_has_its_line(rt: HostRuntime) -> Result<(), Fail> {
     let name = label(b"night")?;
     let day = Day::Date(2024, 3, 1);
-    let mut stmts = Vec::new(rt.alloc());
-    add_copies(rt.alloc(), &mut stmts)?;
-    add_actions(rt.alloc(), &mut stmts)?;
-    add_jumps(&mut stmts)?;
-    let process = Process {
+    let card = Card {
         name,
-        card: Card {
-            name,
-            snode: None,
-            prty: 12,
-            class: 255,
-            hold: Hold::Call,
-            retain: Retain::Yes,
-            start: Some(Start {
-                day,
-                seconds: 52_205,
-            }),
-        },
-        stmts: Stmts::new(stmts),
+        snode: None,
+        prty: 12,
+        class: 255,
+        hold: Hold::Call,
+        retain: Retain::Yes,
+        start: Some(Start {
+            day,
+            seconds: 52_205,
+        }),
     };
-    let text = print(rt.alloc(), &process)?;
+    let text = printed(rt.alloc(), card, each_statement(rt.alloc()))?;
     let expected =
         b"NIGHT PROCESS PRTY=12 CLASS=255 HOLD=CALL RETAIN=YES STARTT=(03/01/2024,14:30:05)
 S1 COPY FROM (FILE='say \"hi\"' SNODE) TO (FILE=\"b\" PNODE DISP=RPL) CKPT=10240K

@@ -1,5 +1,5 @@
 //! A text that is canonical, one that only says the same Process, and some that say none.
-use cd_ast::print;
+use crate::closing::print_and_close;
 use cd_book::Texts;
 use cd_reading::Canonical;
 use std::alloc::Global;
@@ -19,9 +19,10 @@ const TURNED: &[u8] =
 
 /// What is printed of the Process that a text is read as; no bytes where it is read as none.
 fn again(alloc: Global, texts: &impl Texts, text: &[u8]) -> Result<Vec<u8>, Fail> {
-    match texts.process(alloc, text)? {
-        Some(process) => Ok(print(alloc, &process)?),
-        None => Ok(Vec::new(alloc)),
+    match texts.process(alloc, text) {
+        Ok(Some(process)) => Ok(print_and_close(alloc, process)?),
+        Ok(None) => Ok(Vec::new(alloc)),
+        Err(fault) => Err(Fail::from(fault)),
     }
 }
 

@@ -3,13 +3,14 @@ ghost use Rattle.std.specs.Prelude.{◌≡◌, ◌≤◌, ◌<◌, [], length, v
 ghost use Rattle.cd_outside.specs.Counts.{next, Rose};
 ghost use Rattle.cd_outside.specs.Doubt.{settled};
 
-use crate::machine::Machine;
+use crate::closing::close_journal;
+use crate::machine::{Machine, is_said, quiet};
 use crate::worked::{NAMED, SUBMIT, SUBMITTED};
 use cd_cli::Status;
 use cd_journal::{Journal, JournalFault};
-use cd_memory::{FaultScript, MemorySink};
 use cd_outside::{Beat, Disk, Failed, Source};
 use std::alloc::{AllocError, Global};
+use std::process::Abort;
 use std::test::Fail;
 
 // An input of so many blanks.
@@ -33,21 +34,53 @@ impl Source for Blanks {
     }
 }
 
+// A run on an input of so many blanks ends so, with this line.
+fn blanks_end(
+    rt: &impl Abort,
+    alloc: Global,
+    count: usize,
+    status: Status,
+    line: &[u8],
+) -> Result<(), Fail> {
+    let mut input = Blanks { left: count };
+    let Ok(mut machine) = Machine::new(alloc, b"") else {
+        return Err(Fail::from("no machine"));
+    };
+    let ran = machine.answer(&[], &mut input, quiet(alloc));
+    machine.close();
+    match ran {
+        Ok(ran) => {
+            let ended = is_said(rt, ran, line);
+            assert_eq!(rt; ended, status);
+            Ok(())
+        }
+        Err(fault) => Err(fault),
+    }
+}
+
 #[test]
 fn the_input_is_at_its_limit(rt: HostRuntime) -> Result<(), Fail> {
     for (count, status, line) in [
         (16_777_216, Status::Done, b"".as_slice()),
         (16_777_217, Status::InputLimit, b"INPUT LIMIT\n"),
     ] {
-        let mut input = Blanks { left: count };
-        let none = FaultScript::new(Vec::new(rt.alloc()));
-        let mut out = MemorySink::new(rt.alloc(), none)?;
-        let mut machine = Machine::new(rt.alloc(), b"")?;
-        let ended = machine.serve(&[], &mut input, &mut out)?;
-        assert_eq!(rt; ended, status);
-        assert_eq!(rt; out.bytes(), line);
+        blanks_end(&rt, rt.alloc(), count, status, line)?;
     }
     assert_eq!(rt; Status::InputLimit.code(), 11);
+    Ok(())
+}
+
+// A run on these commands ends so, with these lines, and leaves the journal with a home alone.
+fn commands_end(
+    rt: &impl Abort,
+    machine: &mut Machine,
+    commands: &[u8],
+    lines: &[u8],
+    status: Status,
+) -> Result<(), Fail> {
+    let ended = machine.says(rt, commands, lines)?;
+    assert_eq!(rt; ended, status);
+    assert_eq!(rt; machine.bytes(), NAMED);
     Ok(())
 }
 
@@ -63,11 +96,12 @@ fn a_command_is_at_its_limit(rt: HostRuntime) -> Result<(), Fail> {
     ] {
         let mut commands = vec![in rt.alloc(); b'a'; count]?;
         commands.extend_from_slice(b";stop;")?;
-        let mut machine = Machine::new(rt.alloc(), NAMED)?;
-        let ran = machine.run(&commands)?;
-        assert_eq!(rt; ran.out.bytes(), lines);
-        assert_eq!(rt; ran.status, status);
-        assert_eq!(rt; machine.bytes(), NAMED);
+        let Ok(mut machine) = Machine::new(rt.alloc(), NAMED) else {
+            return Err(Fail::from("no machine"));
+        };
+        let outcome = commands_end(&rt, &mut machine, &commands, lines, status);
+        machine.close();
+        outcome?;
     }
     Ok(())
 }
@@ -83,6 +117,40 @@ fn push_of(alloc: Global, count: usize) -> Result<Vec<u8>, AllocError> {
     Ok(text)
 }
 
+// The text stands in a file.
+fn file_is_taken(
+    rt: &impl Abort,
+    machine: &mut Machine,
+    text: &[u8],
+    line: &[u8],
+) -> Result<(), Fail> {
+    machine.put(b"p", text)?;
+    machine.says(rt, b"submit file=p;", line)?;
+    Ok(())
+}
+
+// The command says this line, and so does the one that names a file with the text.
+fn both_are_taken(
+    rt: &impl Abort,
+    alloc: Global,
+    command: &[u8],
+    text: &[u8],
+    line: &[u8],
+) -> Result<(), Fail> {
+    let Ok(mut machine) = Machine::new(alloc, NAMED) else {
+        return Err(Fail::from("no machine"));
+    };
+    let said = machine.says(rt, command, line);
+    machine.close();
+    said?;
+    let Ok(mut machine) = Machine::new(alloc, NAMED) else {
+        return Err(Fail::from("no machine"));
+    };
+    let outcome = file_is_taken(rt, &mut machine, text, line);
+    machine.close();
+    outcome
+}
+
 // As it stands in the command, and in a file.
 #[test]
 fn a_process_text_is_at_its_limit(rt: HostRuntime) -> Result<(), Fail> {
@@ -94,14 +162,17 @@ fn a_process_text_is_at_its_limit(rt: HostRuntime) -> Result<(), Fail> {
         let mut command = Vec::from_slice(rt.alloc(), b"submit ")?;
         command.extend_from_slice(&text)?;
         command.push(b';')?;
-        let mut machine = Machine::new(rt.alloc(), NAMED)?;
-        let ran = machine.run(&command)?;
-        assert_eq!(rt; ran.out.bytes(), line);
-        let mut machine = Machine::new(rt.alloc(), NAMED)?;
-        machine.put(b"p", &text)?;
-        let ran = machine.run(b"submit file=p;")?;
-        assert_eq!(rt; ran.out.bytes(), line);
+        both_are_taken(&rt, rt.alloc(), &command, &text, line)?;
     }
+    Ok(())
+}
+
+fn one_more_and_none(rt: &impl Abort, machine: &mut Machine) -> Result<(), Fail> {
+    machine.says(rt, SUBMIT, b"PROCESS 4096 SUBMITTED\n")?;
+    let status = machine.says(rt, SUBMIT, b"REFUSED FULL 4096\n")?;
+    assert_eq!(rt; status, Status::Refused);
+    let kept = machine.kept(rt)?;
+    assert_eq!(rt; kept.count, 4097);
     Ok(())
 }
 
@@ -115,15 +186,12 @@ fn as_many_are_live_as_may_be(rt: HostRuntime) -> Result<(), Fail> {
         bytes.extend_from_slice(&SUBMITTED[5..])?;
     }
     bytes.push(0)?;
-    let mut machine = Machine::new(rt.alloc(), &bytes)?;
-    let ran = machine.run(SUBMIT)?;
-    assert_eq!(rt; ran.out.bytes(), b"PROCESS 4096 SUBMITTED\n".as_slice());
-    let ran = machine.run(SUBMIT)?;
-    assert_eq!(rt; ran.out.bytes(), b"REFUSED FULL 4096\n".as_slice());
-    assert_eq!(rt; ran.status, Status::Refused);
-    let kept = machine.kept(&rt)?;
-    assert_eq!(rt; kept.count, 4097);
-    Ok(())
+    let Ok(mut machine) = Machine::new(rt.alloc(), &bytes) else {
+        return Err(Fail::from("no machine"));
+    };
+    let outcome = one_more_and_none(&rt, &mut machine);
+    machine.close();
+    outcome
 }
 
 // A disk that takes all and forgets it: it reads as the blank journal.
@@ -211,19 +279,36 @@ fn is_full(journal: &mut Journal, beat: &mut Beat, body: &[u8], wanted: u64) -> 
     }
 }
 
+fn journal_fills(
+    rt: &impl Abort,
+    alloc: Global,
+    journal: &mut Journal,
+    beat: &mut Beat,
+) -> Result<(), Fail>
+    requires { journal.old.sound ≡ true }
+{
+    assert!(rt; journal.has_header());
+    let longest = body_of(alloc, 262_144)?;
+    append_often(journal, beat, &longest, 4095)?;
+    let longer = body_of(alloc, 241_656)?;
+    assert!(rt; is_full(journal, beat, &longer, 1_073_500_164));
+    let last = body_of(alloc, 241_655)?;
+    append_often(journal, beat, &last, 1)?;
+    assert!(rt; is_full(journal, beat, &[7], 1_073_741_824));
+    assert_eq!(rt; journal.count(), 4096);
+    Ok(())
+}
+
 // A journal begins with 9 bytes. 4,095 entries of 262,149 bytes each and one of 241,660 bring it to 2^30 bytes.
 #[test]
 fn a_journal_is_at_its_limit(rt: HostRuntime) -> Result<(), Fail> {
     let mut beat = Beat::new();
-    let mut journal = Journal::open(rt.alloc(), &mut Forgetful, &mut beat)?;
-    assert!(rt; journal.has_header());
-    let longest = body_of(rt.alloc(), 262_144)?;
-    append_often(&mut journal, &mut beat, &longest, 4095)?;
-    let longer = body_of(rt.alloc(), 241_656)?;
-    assert!(rt; is_full(&mut journal, &mut beat, &longer, 1_073_500_164));
-    let last = body_of(rt.alloc(), 241_655)?;
-    append_often(&mut journal, &mut beat, &last, 1)?;
-    assert!(rt; is_full(&mut journal, &mut beat, &[7], 1_073_741_824));
-    assert_eq!(rt; journal.count(), 4096);
-    Ok(())
+    match Journal::open(rt.alloc(), &mut Forgetful, &mut beat) {
+        Ok(mut journal) => {
+            let outcome = journal_fills(&rt, rt.alloc(), &mut journal, &mut beat);
+            close_journal(journal);
+            outcome
+        }
+        Err(fault) => Err(Fail::from(fault)),
+    }
 }

@@ -3,11 +3,12 @@ ghost use Rattle.std.specs.Prelude.{◌≤◌};
 ghost use Rattle.cd_outside.specs.Disk.{last_of};
 ghost use Rattle.cd_memory.specs.MemoryDisk.{state_of};
 
+use crate::closing::{close_disk, close_files, close_journal, close_sink, close_source};
 use cd_cli::{Status, run_node};
 use cd_journal::Journal;
 use cd_memory::{FaultScript, MemoryClock, MemoryDisk, MemoryFiles, MemorySink, MemorySource};
 use cd_outside::{Beat, Sink, Source};
-use cd_types::Moment;
+use cd_types::{Moment, NoMemory};
 use std::alloc::Global;
 use std::process::Abort;
 use std::test::Fail;
@@ -29,6 +30,13 @@ pub struct Ran {
     pub out: MemorySink,
 }
 
+impl Ran {
+    /// Nobody needs it afterwards.
+    pub fn close(self) {
+        close_sink(self.out);
+    }
+}
+
 /// What stands on a disk.
 #[derive(Drop)]
 pub struct Kept {
@@ -36,18 +44,39 @@ pub struct Kept {
     pub last: Vec<u8>,
 }
 
+/// No call of the device fails by it.
+pub fn quiet(alloc: Global) -> FaultScript {
+    FaultScript::new(Vec::new(alloc))
+}
+
 impl Machine {
     /// With these bytes on its disk.
-    pub fn new(alloc: Global, bytes: &[u8]) -> Result<Self, Fail> {
-        let mut disk = MemoryDisk::new(alloc, FaultScript::new(Vec::new(alloc)))?;
-        disk.put(bytes)?;
-        let files = MemoryFiles::new(alloc, FaultScript::new(Vec::new(alloc)))?;
-        Ok(Machine {
-            alloc,
-            disk,
-            files,
-            beat: Beat::new(),
-        })
+    pub fn new(alloc: Global, bytes: &[u8]) -> Result<Self, NoMemory> {
+        let Ok(files) = MemoryFiles::new(alloc, quiet(alloc)) else {
+            return Err(NoMemory);
+        };
+        let Ok(mut disk) = MemoryDisk::new(alloc, quiet(alloc)) else {
+            close_files(files);
+            return Err(NoMemory);
+        };
+        match disk.put(bytes) {
+            Ok(()) => Ok(Machine {
+                alloc,
+                disk,
+                files,
+                beat: Beat::new(),
+            }),
+            Err(fault) => {
+                close_disk(disk);
+                close_files(files);
+                Err(fault)
+            }
+        }
+    }
+
+    /// Nobody needs it afterwards.
+    pub fn close(self) {
+        drop(self);
     }
 
     /// The bytes on the disk.
@@ -94,7 +123,7 @@ impl Machine {
         input: &mut S,
         out: &mut O,
     ) -> Result<Status, Fail> {
-        let mut clock = MemoryClock::new(self.alloc, FaultScript::new(Vec::new(self.alloc)))?;
+        let mut clock = MemoryClock::new(self.alloc, quiet(self.alloc))?;
         clock.set(Moment::new(1_709_287_200).ok_or("no moment")?);
         Ok(run_node(
             self.alloc,
@@ -108,25 +137,67 @@ impl Machine {
         ))
     }
 
+    /// Runs the node on this input, over an output whose calls of these numbers fail.
+    pub fn answer<S: Source>(
+        &mut self,
+        words: &[&str],
+        input: &mut S,
+        script: FaultScript,
+    ) -> Result<Ran, Fail> {
+        let Ok(mut out) = MemorySink::new(self.alloc, script) else {
+            return Err(Fail::from("no output"));
+        };
+        match self.serve(words, input, &mut out) {
+            Ok(status) => Ok(Ran { status, out }),
+            Err(fault) => {
+                close_sink(out);
+                Err(fault)
+            }
+        }
+    }
+
     /// Runs the node on these commands.
     pub fn run(&mut self, commands: &[u8]) -> Result<Ran, Fail> {
-        let none = FaultScript::new(Vec::new(self.alloc));
-        let mut input = MemorySource::new(self.alloc, none)?;
-        input.feed(commands)?;
-        let none = FaultScript::new(Vec::new(self.alloc));
-        let mut out = MemorySink::new(self.alloc, none)?;
-        let status = self.serve(&[], &mut input, &mut out)?;
-        Ok(Ran { status, out })
+        let Ok(mut input) = MemorySource::new(self.alloc, quiet(self.alloc)) else {
+            return Err(Fail::from("no input"));
+        };
+        let ran = match input.feed(commands) {
+            Ok(()) => self.answer(&[], &mut input, quiet(self.alloc)),
+            Err(fault) => Err(Fail::from(fault)),
+        };
+        close_source(input);
+        ran
+    }
+
+    /// Runs the node on these commands: it writes these lines. How it ended is told.
+    pub fn says(&mut self, rt: &impl Abort, commands: &[u8], lines: &[u8]) -> Result<Status, Fail> {
+        match self.run(commands) {
+            Ok(ran) => Ok(is_said(rt, ran, lines)),
+            Err(fault) => Err(fault),
+        }
     }
 
     /// Opens the journal, and reads its last entry.
     pub fn kept(&mut self, rt: &impl Abort) -> Result<Kept, Fail> {
-        let mut journal = Journal::open(self.alloc, &mut self.disk, &mut self.beat)?;
+        let mut journal = match Journal::open(self.alloc, &mut self.disk, &mut self.beat) {
+            Ok(journal) => journal,
+            Err(fault) => return Err(Fail::from(fault)),
+        };
         let count = journal.count();
         assert!(rt; journal.has_header());
         assert!(rt; count > 0);
         let mut last = Vec::new(self.alloc);
-        journal.entry(&mut self.disk, count - 1, &mut last)?;
+        let read = journal.entry(&mut self.disk, count - 1, &mut last);
+        close_journal(journal);
+        read?;
         Ok(Kept { count, last })
     }
+}
+
+/// The run wrote these lines. How it ended is told.
+pub fn is_said(rt: &impl Abort, ran: Ran, lines: &[u8]) -> Status {
+    assert_eq!(rt; ran.out.bytes(), lines);
+    let status = ran.status;
+    ran.close();
+    status
 }

@@ -1,59 +1,89 @@
 //! Whole runs: what they write, how they end, and what they leave on the disk.
-use crate::machine::Machine;
+ghost use Rattle.std.specs.Prelude.{◌≤◌};
+ghost use Rattle.cd_outside.specs.Disk.{last_of};
+ghost use Rattle.cd_memory.specs.SteadyDisk.{steady_state};
+
+use crate::closing::{close_source, close_steady_disk, close_steady_files};
+use crate::machine::{Machine, is_said, quiet};
 use crate::worked::{FILE, FIRST, FROM_FILE, INIT, JOURNAL, NAMED, SUBMIT};
 use cd_cli::{Status, run_node};
 use cd_memory::{
-    FaultScript, MemorySink, MemorySource, SteadyClock, SteadyDisk, SteadyFiles, SteadySink,
-    SteadySource,
+    FaultScript, MemorySource, SteadyClock, SteadyDisk, SteadyFiles, SteadySink, SteadySource,
 };
 use cd_outside::Beat;
 use cd_types::Moment;
+use std::alloc::Global;
+use std::process::Abort;
 use std::test::Fail;
+
+fn home_is_named(rt: &impl Abort, machine: &mut Machine) -> Result<(), Fail> {
+    let status = machine.says(rt, INIT, b"HOME ALPHA 17\n")?;
+    assert_eq!(rt; status.code(), 0);
+    assert_eq!(rt; machine.bytes(), NAMED);
+    Ok(())
+}
+
+fn commands_are_done(rt: &impl Abort, machine: &mut Machine) -> Result<(), Fail> {
+    let status = machine.says(rt, FIRST, b"HOME ALPHA 17\nPROCESS 1 SUBMITTED\nSTOPPED\n")?;
+    assert_eq!(rt; status, Status::Done);
+    assert_eq!(rt; status.code(), 0);
+    assert_eq!(rt; machine.bytes(), JOURNAL);
+    Ok(())
+}
 
 #[test]
 fn the_first_commands(rt: HostRuntime) -> Result<(), Fail> {
     assert_eq!(rt; NAMED.len(), 29);
     assert_eq!(rt; JOURNAL.len(), 202);
-    let mut machine = Machine::new(rt.alloc(), b"")?;
-    let ran = machine.run(INIT)?;
-    assert_eq!(rt; ran.out.bytes(), b"HOME ALPHA 17\n".as_slice());
-    assert_eq!(rt; ran.status.code(), 0);
-    assert_eq!(rt; machine.bytes(), NAMED);
-    let mut machine = Machine::new(rt.alloc(), b"")?;
-    let ran = machine.run(FIRST)?;
-    assert_eq!(rt;
-        ran.out.bytes(),
-        b"HOME ALPHA 17\nPROCESS 1 SUBMITTED\nSTOPPED\n".as_slice()
-    );
-    assert_eq!(rt; ran.status, Status::Done);
-    assert_eq!(rt; ran.status.code(), 0);
+    let Ok(mut machine) = Machine::new(rt.alloc(), b"") else {
+        return Err(Fail::from("no machine"));
+    };
+    let named = home_is_named(&rt, &mut machine);
+    machine.close();
+    named?;
+    let Ok(mut machine) = Machine::new(rt.alloc(), b"") else {
+        return Err(Fail::from("no machine"));
+    };
+    let done = commands_are_done(&rt, &mut machine);
+    machine.close();
+    done
+}
+
+fn file_is_taken(rt: &impl Abort, machine: &mut Machine) -> Result<(), Fail> {
+    machine.put(b"p1.cd", FILE)?;
+    let status = machine.says(
+        rt,
+        FROM_FILE,
+        b"HOME ALPHA 17\nPROCESS 1 SUBMITTED\nSTOPPED\n",
+    )?;
+    assert_eq!(rt; status, Status::Done);
     assert_eq!(rt; machine.bytes(), JOURNAL);
+    let as_it_was = Some(FILE);
+    assert_eq!(rt; machine.file(b"p1.cd"), as_it_was);
     Ok(())
 }
 
 // The Process stands in a file, which is left as it was.
 #[test]
 fn a_process_in_a_file(rt: HostRuntime) -> Result<(), Fail> {
-    let mut machine = Machine::new(rt.alloc(), b"")?;
-    machine.put(b"p1.cd", FILE)?;
-    let ran = machine.run(FROM_FILE)?;
-    assert_eq!(rt;
-        ran.out.bytes(),
-        b"HOME ALPHA 17\nPROCESS 1 SUBMITTED\nSTOPPED\n".as_slice()
-    );
-    assert_eq!(rt; ran.status, Status::Done);
-    assert_eq!(rt; machine.bytes(), JOURNAL);
-    assert_eq!(rt; machine.file(b"p1.cd"), Some(FILE));
-    Ok(())
+    let Ok(mut machine) = Machine::new(rt.alloc(), b"") else {
+        return Err(Fail::from("no machine"));
+    };
+    let outcome = file_is_taken(&rt, &mut machine);
+    machine.close();
+    outcome
 }
 
-// The same over devices that never fail within their room.
-#[test]
-fn the_first_commands_on_steady_devices(rt: HostRuntime) -> Result<(), Fail> {
-    let alloc = rt.alloc();
-    let mut disk = SteadyDisk::new(alloc)?;
+fn steady_devices_do_them(
+    rt: &impl Abort,
+    alloc: Global,
+    disk: &mut SteadyDisk,
+    files: &mut SteadyFiles,
+    beat: &mut Beat,
+) -> Result<(), Fail>
+    requires { last_of (steady_state disk.old).calls ≤ beat.old }
+{
     disk.room(20, 1000)?;
-    let mut files = SteadyFiles::new(alloc)?;
     files.put(b"p1.cd", FILE)?;
     files.room(2, 0)?;
     let mut clock = SteadyClock::new(alloc)?;
@@ -63,16 +93,15 @@ fn the_first_commands_on_steady_devices(rt: HostRuntime) -> Result<(), Fail> {
     input.feed(FROM_FILE)?;
     let mut out = SteadySink::new(alloc)?;
     out.room(4, 100)?;
-    let mut beat = Beat::new();
     let status = run_node(
         alloc,
         &[],
-        &mut disk,
-        &mut files,
+        disk,
+        files,
         &mut clock,
         &mut input,
         &mut out,
-        &mut beat,
+        beat,
     );
     assert_eq!(rt; status, Status::Done);
     assert_eq!(rt;
@@ -83,19 +112,43 @@ fn the_first_commands_on_steady_devices(rt: HostRuntime) -> Result<(), Fail> {
     Ok(())
 }
 
+// The same over devices that never fail within their room.
 #[test]
-fn a_home_that_has_a_name(rt: HostRuntime) -> Result<(), Fail> {
-    let mut machine = Machine::new(rt.alloc(), JOURNAL)?;
-    let named = machine.run(b"init name=BETA home=1;")?;
-    assert_eq!(rt; named.out.bytes(), b"REFUSED ALREADYHOME\n".as_slice());
-    assert_eq!(rt; named.status, Status::Refused);
-    assert_eq!(rt; named.status.code(), 2);
+fn the_first_commands_on_steady_devices(rt: HostRuntime) -> Result<(), Fail> {
+    let alloc = rt.alloc();
+    let Ok(mut files) = SteadyFiles::new(alloc) else {
+        return Err(Fail::from("no files"));
+    };
+    let Ok(mut disk) = SteadyDisk::new(alloc) else {
+        close_steady_files(files);
+        return Err(Fail::from("no disk"));
+    };
+    let mut beat = Beat::new();
+    let outcome = steady_devices_do_them(&rt, alloc, &mut disk, &mut files, &mut beat);
+    close_steady_disk(disk);
+    close_steady_files(files);
+    outcome
+}
+
+fn home_stays(rt: &impl Abort, machine: &mut Machine) -> Result<(), Fail> {
+    let named = machine.says(rt, b"init name=BETA home=1;", b"REFUSED ALREADYHOME\n")?;
+    assert_eq!(rt; named, Status::Refused);
+    assert_eq!(rt; named.code(), 2);
     assert_eq!(rt; machine.bytes(), JOURNAL);
-    let next = machine.run(SUBMIT)?;
-    assert_eq!(rt; next.out.bytes(), b"PROCESS 2 SUBMITTED\n".as_slice());
-    assert_eq!(rt; next.status, Status::Done);
+    let next = machine.says(rt, SUBMIT, b"PROCESS 2 SUBMITTED\n")?;
+    assert_eq!(rt; next, Status::Done);
     assert_eq!(rt; machine.bytes().len(), 375);
     Ok(())
+}
+
+#[test]
+fn a_home_that_has_a_name(rt: HostRuntime) -> Result<(), Fail> {
+    let Ok(mut machine) = Machine::new(rt.alloc(), JOURNAL) else {
+        return Err(Fail::from("no machine"));
+    };
+    let outcome = home_stays(&rt, &mut machine);
+    machine.close();
+    outcome
 }
 
 /// Commands that submit the Process of the worked journal, each in its own way.
@@ -106,17 +159,21 @@ const SAME: [&[u8]; 4] = [
     b"submit P1 PROCESS &g=b.txt -\nSNODE=BETA\n* A line of its own.\nS1 COPY FROM (FILE=a.txt) TO (FILE=&g) PEND;",
 ];
 
+fn process_is_kept(rt: &impl Abort, machine: &mut Machine, command: &[u8]) -> Result<(), Fail> {
+    machine.says(rt, command, b"PROCESS 1 SUBMITTED\n")?;
+    assert_eq!(rt; machine.bytes(), JOURNAL, "{command:?}");
+    Ok(())
+}
+
 #[test]
 fn one_process_in_other_words(rt: HostRuntime) -> Result<(), Fail> {
     for command in SAME {
-        let mut machine = Machine::new(rt.alloc(), NAMED)?;
-        let ran = machine.run(command)?;
-        assert_eq!(rt;
-            ran.out.bytes(),
-            b"PROCESS 1 SUBMITTED\n".as_slice(),
-            "{command:?}"
-        );
-        assert_eq!(rt; machine.bytes(), JOURNAL, "{command:?}");
+        let Ok(mut machine) = Machine::new(rt.alloc(), NAMED) else {
+            return Err(Fail::from("no machine"));
+        };
+        let outcome = process_is_kept(&rt, &mut machine, command);
+        machine.close();
+        outcome?;
     }
     Ok(())
 }
@@ -150,15 +207,35 @@ const UNFIT: [(&[u8], &[u8]); 6] = [
     (b"CDNODE02", b"UNFIT 7\n"),
 ];
 
+fn journal_is_told(
+    rt: &impl Abort,
+    machine: &mut Machine,
+    bytes: &[u8],
+    line: &[u8],
+) -> Result<(), Fail> {
+    let status = machine.says(rt, SUBMIT, line)?;
+    assert_eq!(rt; status.code(), 6);
+    assert_eq!(rt; machine.bytes(), bytes);
+    Ok(())
+}
+
 #[test]
 fn a_journal_that_is_not_fit(rt: HostRuntime) -> Result<(), Fail> {
     for (bytes, line) in UNFIT {
-        let mut machine = Machine::new(rt.alloc(), bytes)?;
-        let ran = machine.run(SUBMIT)?;
-        assert_eq!(rt; ran.out.bytes(), line);
-        assert_eq!(rt; ran.status.code(), 6);
-        assert_eq!(rt; machine.bytes(), bytes);
+        let Ok(mut machine) = Machine::new(rt.alloc(), bytes) else {
+            return Err(Fail::from("no machine"));
+        };
+        let outcome = journal_is_told(&rt, &mut machine, bytes, line);
+        machine.close();
+        outcome?;
     }
+    Ok(())
+}
+
+fn second_is_kept(rt: &impl Abort, machine: &mut Machine) -> Result<(), Fail> {
+    let status = machine.says(rt, SUBMIT, b"PROCESS 2 SUBMITTED\n")?;
+    assert_eq!(rt; status, Status::Done);
+    assert_eq!(rt; machine.bytes().len(), 383);
     Ok(())
 }
 
@@ -170,30 +247,73 @@ fn a_start_in_a_card_is_not_compared(rt: HostRuntime) -> Result<(), Fail> {
     bytes.extend_from_slice(&JOURNAL[33..59])?;
     bytes.extend_from_slice(b"\x01\0\0\0\0\0\0\0\x07")?;
     bytes.extend_from_slice(&JOURNAL[60..])?;
-    let mut machine = Machine::new(rt.alloc(), &bytes)?;
-    let ran = machine.run(SUBMIT)?;
-    assert_eq!(rt; ran.out.bytes(), b"PROCESS 2 SUBMITTED\n".as_slice());
-    assert_eq!(rt; ran.status, Status::Done);
-    assert_eq!(rt; machine.bytes().len(), 383);
+    let Ok(mut machine) = Machine::new(rt.alloc(), &bytes) else {
+        return Err(Fail::from("no machine"));
+    };
+    let outcome = second_is_kept(&rt, &mut machine);
+    machine.close();
+    outcome
+}
+
+// A run with these words on this input, over an output whose calls of these numbers fail: it writes these lines. How it ended is
+// told.
+fn ended(
+    rt: &impl Abort,
+    machine: &mut Machine,
+    words: &[&str],
+    input: &mut MemorySource,
+    script: FaultScript,
+    lines: &[u8],
+) -> Result<Status, Fail> {
+    match machine.answer(words, input, script) {
+        Ok(ran) => Ok(is_said(rt, ran, lines)),
+        Err(fault) => Err(fault),
+    }
+}
+
+fn word_is_refused(
+    rt: &impl Abort,
+    alloc: Global,
+    machine: &mut Machine,
+    input: &mut MemorySource,
+) -> Result<(), Fail> {
+    input.feed(INIT)?;
+    let lines = b"USAGE cdnode [--echo] [--max-turns N]\n";
+    let status = ended(rt, machine, &["--echo"], input, quiet(alloc), lines)?;
+    assert_eq!(rt; status, Status::Usage);
+    assert_eq!(rt; status.code(), 1);
+    assert_eq!(rt; machine.bytes(), b"".as_slice());
     Ok(())
 }
 
 #[test]
 fn a_word_is_not_taken(rt: HostRuntime) -> Result<(), Fail> {
-    let none = FaultScript::new(Vec::new(rt.alloc()));
-    let mut input = MemorySource::new(rt.alloc(), none)?;
+    let Ok(mut input) = MemorySource::new(rt.alloc(), quiet(rt.alloc())) else {
+        return Err(Fail::from("no input"));
+    };
+    let Ok(mut machine) = Machine::new(rt.alloc(), b"") else {
+        close_source(input);
+        return Err(Fail::from("no machine"));
+    };
+    let outcome = word_is_refused(&rt, rt.alloc(), &mut machine, &mut input);
+    machine.close();
+    close_source(input);
+    outcome
+}
+
+fn fault_of_input_is_told(
+    rt: &impl Abort,
+    alloc: Global,
+    machine: &mut Machine,
+    input: &mut MemorySource,
+) -> Result<(), Fail> {
     input.feed(INIT)?;
-    let none = FaultScript::new(Vec::new(rt.alloc()));
-    let mut out = MemorySink::new(rt.alloc(), none)?;
-    let mut machine = Machine::new(rt.alloc(), b"")?;
-    let status = machine.serve(&["--echo"], &mut input, &mut out)?;
-    assert_eq!(rt; status, Status::Usage);
-    assert_eq!(rt; status.code(), 1);
-    assert_eq!(rt;
-        out.bytes(),
-        b"USAGE cdnode [--echo] [--max-turns N]\n".as_slice()
-    );
-    assert_eq!(rt; machine.bytes(), b"".as_slice());
+    input.feed(SUBMIT)?;
+    let lines = b"HOME ALPHA 17\nPROCESS 1 SUBMITTED\nINPUT FAULT\n";
+    let status = ended(rt, machine, &[], input, quiet(alloc), lines)?;
+    assert_eq!(rt; status, Status::SourceFault);
+    assert_eq!(rt; status.code(), 9);
+    assert_eq!(rt; machine.bytes(), JOURNAL);
     Ok(())
 }
 
@@ -201,19 +321,30 @@ fn a_word_is_not_taken(rt: HostRuntime) -> Result<(), Fail> {
 #[test]
 fn the_input_fails(rt: HostRuntime) -> Result<(), Fail> {
     let second = FaultScript::new(Vec::from_slice(rt.alloc(), &[2])?);
-    let mut input = MemorySource::new(rt.alloc(), second)?;
-    input.feed(INIT)?;
-    input.feed(SUBMIT)?;
-    let none = FaultScript::new(Vec::new(rt.alloc()));
-    let mut out = MemorySink::new(rt.alloc(), none)?;
-    let mut machine = Machine::new(rt.alloc(), b"")?;
-    let status = machine.serve(&[], &mut input, &mut out)?;
-    assert_eq!(rt; status, Status::SourceFault);
-    assert_eq!(rt; status.code(), 9);
-    assert_eq!(rt;
-        out.bytes(),
-        b"HOME ALPHA 17\nPROCESS 1 SUBMITTED\nINPUT FAULT\n".as_slice()
-    );
+    let Ok(mut input) = MemorySource::new(rt.alloc(), second) else {
+        return Err(Fail::from("no input"));
+    };
+    let Ok(mut machine) = Machine::new(rt.alloc(), b"") else {
+        close_source(input);
+        return Err(Fail::from("no machine"));
+    };
+    let outcome = fault_of_input_is_told(&rt, rt.alloc(), &mut machine, &mut input);
+    machine.close();
+    close_source(input);
+    outcome
+}
+
+fn fault_of_output_is_told(
+    rt: &impl Abort,
+    alloc: Global,
+    machine: &mut Machine,
+    input: &mut MemorySource,
+) -> Result<(), Fail> {
+    input.feed(FIRST)?;
+    let second = FaultScript::new(Vec::from_slice(alloc, &[2])?);
+    let status = ended(rt, machine, &[], input, second, b"HOME ALPHA 17\n")?;
+    assert_eq!(rt; status, Status::SinkFault);
+    assert_eq!(rt; status.code(), 10);
     assert_eq!(rt; machine.bytes(), JOURNAL);
     Ok(())
 }
@@ -221,16 +352,15 @@ fn the_input_fails(rt: HostRuntime) -> Result<(), Fail> {
 // The second line fails: it was to acknowledge the submission, which is kept.
 #[test]
 fn the_output_fails(rt: HostRuntime) -> Result<(), Fail> {
-    let none = FaultScript::new(Vec::new(rt.alloc()));
-    let mut input = MemorySource::new(rt.alloc(), none)?;
-    input.feed(FIRST)?;
-    let second = FaultScript::new(Vec::from_slice(rt.alloc(), &[2])?);
-    let mut out = MemorySink::new(rt.alloc(), second)?;
-    let mut machine = Machine::new(rt.alloc(), b"")?;
-    let status = machine.serve(&[], &mut input, &mut out)?;
-    assert_eq!(rt; status, Status::SinkFault);
-    assert_eq!(rt; status.code(), 10);
-    assert_eq!(rt; out.bytes(), b"HOME ALPHA 17\n".as_slice());
-    assert_eq!(rt; machine.bytes(), JOURNAL);
-    Ok(())
+    let Ok(mut input) = MemorySource::new(rt.alloc(), quiet(rt.alloc())) else {
+        return Err(Fail::from("no input"));
+    };
+    let Ok(mut machine) = Machine::new(rt.alloc(), b"") else {
+        close_source(input);
+        return Err(Fail::from("no machine"));
+    };
+    let outcome = fault_of_output_is_told(&rt, rt.alloc(), &mut machine, &mut input);
+    machine.close();
+    close_source(input);
+    outcome
 }

@@ -2,6 +2,7 @@
 ghost use Rattle.std.specs.Prelude.{◌≡◌, None};
 ghost use Rattle.cd_book.specs.Book.{IsRead};
 
+use crate::closing::{close_book, close_entry, close_reading};
 use cd_ast::{Process, Stmt, Stmts, TaskStep, What};
 use cd_book::{Book, Status, Texts};
 use cd_entries::Entry;
@@ -31,6 +32,9 @@ impl Texts for OneTask {
     ghost read = { λ text. option_map (λ own. record { name = own; card = record { name = own; snode = node_name_of (66 ∷ 69 ∷ 84 ∷ 65 ∷ []); prty = 10; class = 1; hold = hold.No; retain = retain.No; start = None }; stmts = record { label = None; what = what.Task (record { side = side.Pnode; command = 103 ∷ 111 ∷ []; kind = task_kind.Restart }) } ∷ [] }) (if is_label (80 ∷ 49 ∷ []) then Some (80 ∷ 49 ∷ []) else None) };
 
     fn process(&self, alloc: Global, _: &[u8]) -> Result<Option<Process>, NoMemory> {
+        let Some(name) = Label::exact(b"P1") else {
+            return Ok(None);
+        };
         let command = Bytes::copy_of(alloc, b"go")?;
         let mut stmts = Vec::new(alloc);
         let what = What::Task(TaskStep {
@@ -39,9 +43,6 @@ impl Texts for OneTask {
             kind: TaskKind::Restart,
         });
         stmts.push(Stmt { label: None, what })?;
-        let Some(name) = Label::exact(b"P1") else {
-            return Ok(None);
-        };
         let card = Card {
             name,
             snode: NodeName::new(b"BETA"),
@@ -64,9 +65,25 @@ fn add(rt: &impl Abort, book: &mut Book<OneTask>, entry: Entry) -> Result<(), Fa
     requires { IsRead ⟦<OneTask as Texts>⟧.read entry None }
 {
     assert!(rt; may_follow(book, &entry, None));
-    book.reserve()?;
-    book.put(entry, None);
-    Ok(())
+    match book.reserve() {
+        Ok(()) => {
+            book.put(entry, None);
+            Ok(())
+        }
+        Err(fault) => {
+            close_entry(entry);
+            Err(Fail::from(fault))
+        }
+    }
+}
+
+/// The entry may follow. It goes nowhere.
+fn may(book: &Book<OneTask>, entry: Entry) -> bool
+    requires { IsRead ⟦<OneTask as Texts>⟧.read entry None }
+{
+    let may = may_follow(book, &entry, None);
+    close_entry(entry);
+    may
 }
 
 /// A Process is submitted.
@@ -87,20 +104,30 @@ fn submit(
         start: None,
     };
     let text = Bytes::copy_of(alloc, b"a text")?;
-    let process = book.texts().process(alloc, text.as_slice())?;
+    let process = match book.texts().process(alloc, text.as_slice()) {
+        Ok(process) => process,
+        Err(fault) => return Err(Fail::from(fault)),
+    };
     let entry = Entry::Submitted(number, moment, None, card, text);
     assert!(rt; may_follow(book, &entry, process.as_ref()));
-    book.reserve()?;
-    book.put(entry, process);
-    Ok(())
+    match book.reserve() {
+        Ok(()) => {
+            book.put(entry, process);
+            Ok(())
+        }
+        Err(fault) => {
+            close_entry(entry);
+            close_reading(process);
+            Err(Fail::from(fault))
+        }
+    }
 }
 
-/// The book of node ALPHA, at home 17.
-fn begun(rt: &impl Abort, alloc: Global) -> Result<Book<OneTask>, Fail> {
-    let mut book = Book::new(alloc, OneTask);
+/// The book gets to be that of node ALPHA, at home 17.
+fn begin(rt: &impl Abort, book: &mut Book<OneTask>) -> Result<(), Fail> {
     let name = NodeName::new(b"ALPHA").ok_or("no name")?;
-    add(rt, &mut book, Entry::Home(name, 17))?;
-    Ok(book)
+    add(rt, book, Entry::Home(name, 17))?;
+    Ok(())
 }
 
 fn key(name: &[u8], home: u64, number: u32) -> Result<Key, Fail> {
@@ -116,16 +143,18 @@ fn moment(seconds: u64) -> Result<Moment, Fail> {
     Ok(Moment::new(seconds).ok_or("no moment")?)
 }
 
-#[test]
-fn own_process(rt: HostRuntime) -> Result<(), Fail> {
-    let alloc = rt.alloc();
-    let mut book = begun(&rt, alloc)?;
-    let step = key(b"ALPHA", 17, 1)?;
+/// Two Processes are submitted, and the first one is placed.
+fn submitted_processes(
+    rt: &impl Abort,
+    alloc: Global,
+    book: &mut Book<OneTask>,
+    step: Key,
+    two: ProcNo,
+) -> Result<(), Fail> {
     let one = step.number;
-    let two = ProcNo::new(2).ok_or("no number")?;
     let now = moment(100)?;
-    submit(&rt, alloc, &mut book, one, now)?;
-    submit(&rt, alloc, &mut book, two, now)?;
+    submit(rt, alloc, book, one, now)?;
+    submit(rt, alloc, book, two, now)?;
     assert!(rt; book.is_own(&step) && book.is_live(one) && book.runs_itself(one));
     assert_eq!(rt; book.submitted(), 2);
     assert_eq!(rt; book.live(), 2);
@@ -138,9 +167,9 @@ fn own_process(rt: HostRuntime) -> Result<(), Fail> {
         attempts: 0,
         prty: 10,
     };
-    add(&rt, &mut book, Entry::Placed(one, placed, now))?;
+    add(rt, book, Entry::Placed(one, placed, now))?;
     assert!(rt; matches!(book.placing(one), Some(placing) if placing == placed));
-    ended_process(&rt, &mut book, step, two)
+    Ok(())
 }
 
 /// The task of the first Process is started twice and ends with 4, and the Process closes.
@@ -166,8 +195,8 @@ fn ended_process(
     assert!(rt; matches!(book.what_next(one), Some(What::Task(_))));
     add(rt, book, Entry::Result(step, outcomes, later))?;
     assert!(rt; matches!(book.outcome(&step), Some(found) if found == outcomes));
-    assert!(rt; !may_follow(book, &Entry::Result(step, outcomes, later), None));
-    assert!(rt; !may_follow(book, &Entry::Ended(one, 0, 0, Cause::None, 0, later), None));
+    assert!(rt; !may(book, Entry::Result(step, outcomes, later)));
+    assert!(rt; !may(book, Entry::Ended(one, 0, 0, Cause::None, 0, later)));
     add(rt, book, Entry::Ended(one, 0, 4, Cause::None, 0, later))?;
     assert_eq!(rt; book.next_place(one), 1);
     assert!(rt; book.what_next(one).is_none());
@@ -177,6 +206,23 @@ fn ended_process(
     assert_eq!(rt; book.latest(), 101);
     assert_eq!(rt; book.len(), 9);
     Ok(())
+}
+
+fn whole_process(rt: &impl Abort, alloc: Global, book: &mut Book<OneTask>) -> Result<(), Fail> {
+    begin(rt, book)?;
+    let step = key(b"ALPHA", 17, 1)?;
+    let two = ProcNo::new(2).ok_or("no number")?;
+    submitted_processes(rt, alloc, book, step, two)?;
+    ended_process(rt, book, step, two)?;
+    Ok(())
+}
+
+#[test]
+fn own_process(rt: HostRuntime) -> Result<(), Fail> {
+    let mut book = Book::new(rt.alloc(), OneTask);
+    let outcome = whole_process(&rt, rt.alloc(), &mut book);
+    close_book(book);
+    outcome
 }
 
 fn coming(alloc: Global, key: Key, length: u64) -> Result<Receiving, Fail> {
@@ -191,24 +237,26 @@ fn coming(alloc: Global, key: Key, length: u64) -> Result<Receiving, Fail> {
     })
 }
 
-#[test]
-fn receiving(rt: HostRuntime) -> Result<(), Fail> {
-    let alloc = rt.alloc();
-    let mut book = begun(&rt, alloc)?;
-    let step = key(b"BETA", 23, 7)?;
-    let other = key(b"BETA", 23, 8)?;
-    add(&rt, &mut book, Entry::Receiving(coming(alloc, step, 10)?))?;
-    add(&rt, &mut book, Entry::Mark(step, 4))?;
+/// A file is received, and once more from its start.
+fn received(
+    rt: &impl Abort,
+    alloc: Global,
+    book: &mut Book<OneTask>,
+    step: Key,
+    other: Key,
+) -> Result<(), Fail> {
+    add(rt, book, Entry::Receiving(coming(alloc, step, 10)?))?;
+    add(rt, book, Entry::Mark(step, 4))?;
     assert!(rt; matches!(book.status(&step), Status::Open(_, 4)));
-    assert!(rt; !may_follow(&book, &Entry::Mark(step, 12), None));
-    assert!(rt; !may_follow(&book, &Entry::Receiving(coming(alloc, other, 8)?), None));
+    assert!(rt; !may(book, Entry::Mark(step, 12)));
+    assert!(rt; !may(book, Entry::Receiving(coming(alloc, other, 8)?)));
     assert!(rt; book.is_in_use(&other, b"in") && !book.is_in_use(&step, b"in"));
     assert!(rt; book.is_receiving_for(&step.pnode, 23, step.number));
-    add(&rt, &mut book, Entry::Receiving(coming(alloc, step, 8)?))?;
+    add(rt, book, Entry::Receiving(coming(alloc, step, 8)?))?;
     assert_eq!(rt; book.mark(&step), 0);
     assert!(rt; matches!(book.receiving(b"in"), Some(found) if found.length == 8));
     assert!(rt; matches!(book.receiving_of(&step), Some(found) if found.length == 8));
-    landed(&rt, alloc, &mut book, step, other)
+    Ok(())
 }
 
 /// The file lands whole, and another one is dropped.
@@ -227,8 +275,8 @@ fn landed(
         made: 0,
     };
     add(rt, book, Entry::Mark(step, 4))?;
-    assert!(rt; !may_follow(book, &Entry::Result(step, outcomes, now), None));
-    assert!(rt; !may_follow(book, &Entry::Forgot(step.pnode, 23, step.number), None));
+    assert!(rt; !may(book, Entry::Result(step, outcomes, now)));
+    assert!(rt; !may(book, Entry::Forgot(step.pnode, 23, step.number)));
     add(rt, book, Entry::Mark(step, 8))?;
     add(rt, book, Entry::Result(step, outcomes, now))?;
     add(rt, book, Entry::Forgot(step.pnode, 23, step.number))?;
@@ -240,4 +288,21 @@ fn landed(
     assert!(rt; book.made_for(&other).is_none());
     assert!(rt; matches!(book.own_home(), Some((_, 17))));
     Ok(())
+}
+
+fn whole_files(rt: &impl Abort, alloc: Global, book: &mut Book<OneTask>) -> Result<(), Fail> {
+    begin(rt, book)?;
+    let step = key(b"BETA", 23, 7)?;
+    let other = key(b"BETA", 23, 8)?;
+    received(rt, alloc, book, step, other)?;
+    landed(rt, alloc, book, step, other)?;
+    Ok(())
+}
+
+#[test]
+fn receiving(rt: HostRuntime) -> Result<(), Fail> {
+    let mut book = Book::new(rt.alloc(), OneTask);
+    let outcome = whole_files(&rt, rt.alloc(), &mut book);
+    close_book(book);
+    outcome
 }
