@@ -175,7 +175,7 @@ fn steady_disk_keeps(rt: &impl Abort, disk: &mut SteadyDisk) -> Result<(), Fail>
 fn steady_source_gives(
     rt: &impl Abort,
     source: &mut SteadySource,
-    into: &mut [u8],
+    into: &mut [u8; 2],
 ) -> Result<(), Fail> {
     source.room(1, 1)?;
     source.feed(&[5])?;
