@@ -15,18 +15,6 @@ fn bytes(alloc: Global, text: &[u8]) -> Result<Bytes, Fail> {
     Ok(Bytes::copy_of(alloc, text)?)
 }
 
-fn card(name: Label) -> Result<Card, Fail> {
-    Ok(Card {
-        name,
-        snode: Some(NodeName::new(b"BETA").ok_or("no name")?),
-        prty: 10,
-        class: 1,
-        hold: Hold::No,
-        retain: Retain::No,
-        start: None,
-    })
-}
-
 fn copy(alloc: Global, files: (&[u8], &[u8]), push: bool, ckpt: Option<u64>) -> Result<What, Fail> {
     Ok(What::Copy(CopyStep {
         from: bytes(alloc, files.0)?,
@@ -79,7 +67,17 @@ fn one_copy(alloc: Global) -> Result<Vec<Stmt>, Fail> {
 /// The kept text of a Process with one COPY has these three lines.
 #[test]
 fn one_copy_has_three_lines(rt: HostRuntime) -> Result<(), Fail> {
-    let card = card(label(b"P1")?)?;
+    let name = label(b"P1")?;
+    let snode = Some(NodeName::new(b"BETA").ok_or("no name")?);
+    let card = Card {
+        name,
+        snode,
+        prty: 10,
+        class: 1,
+        hold: Hold::No,
+        retain: Retain::No,
+        start: None,
+    };
     let text = printed(rt.alloc(), card, one_copy(rt.alloc()))?;
     let expected = b"P1 PROCESS SNODE=BETA PRTY=10 CLASS=1 HOLD=NO RETAIN=NO
 S1 COPY FROM (FILE=\"a.txt\" PNODE) TO (FILE=\"b.txt\" SNODE DISP=RPL) CKPT=64K
