@@ -148,9 +148,9 @@ fn submitted_processes(
     rt: &impl Abort,
     alloc: Global,
     book: &mut Book<OneTask>,
-    step: Key,
-    two: ProcNo,
 ) -> Result<(), Fail> {
+    let step = key(b"ALPHA", 17, 1)?;
+    let two = ProcNo::new(2).ok_or("no number")?;
     let one = step.number;
     let now = moment(100)?;
     submit(rt, alloc, book, one, now)?;
@@ -173,12 +173,9 @@ fn submitted_processes(
 }
 
 /// The task of the first Process is started twice and ends with 4, and the Process closes.
-fn ended_process(
-    rt: &impl Abort,
-    book: &mut Book<OneTask>,
-    step: Key,
-    two: ProcNo,
-) -> Result<(), Fail> {
+fn ended_process(rt: &impl Abort, book: &mut Book<OneTask>) -> Result<(), Fail> {
+    let step = key(b"ALPHA", 17, 1)?;
+    let two = ProcNo::new(2).ok_or("no number")?;
     let later = moment(101)?;
     let one = step.number;
     let outcomes = Outcomes {
@@ -210,10 +207,8 @@ fn ended_process(
 
 fn whole_process(rt: &impl Abort, alloc: Global, book: &mut Book<OneTask>) -> Result<(), Fail> {
     begin(rt, book)?;
-    let step = key(b"ALPHA", 17, 1)?;
-    let two = ProcNo::new(2).ok_or("no number")?;
-    submitted_processes(rt, alloc, book, step, two)?;
-    ended_process(rt, book, step, two)?;
+    submitted_processes(rt, alloc, book)?;
+    ended_process(rt, book)?;
     Ok(())
 }
 
@@ -238,13 +233,9 @@ fn coming(alloc: Global, key: Key, length: u64) -> Result<Receiving, Fail> {
 }
 
 /// A file is received, and once more from its start.
-fn received(
-    rt: &impl Abort,
-    alloc: Global,
-    book: &mut Book<OneTask>,
-    step: Key,
-    other: Key,
-) -> Result<(), Fail> {
+fn received(rt: &impl Abort, alloc: Global, book: &mut Book<OneTask>) -> Result<(), Fail> {
+    let step = key(b"BETA", 23, 7)?;
+    let other = key(b"BETA", 23, 8)?;
     add(rt, book, Entry::Receiving(coming(alloc, step, 10)?))?;
     add(rt, book, Entry::Mark(step, 4))?;
     assert!(rt; matches!(book.status(&step), Status::Open(_, 4)));
@@ -260,13 +251,9 @@ fn received(
 }
 
 /// The file lands whole, and another one is dropped.
-fn landed(
-    rt: &impl Abort,
-    alloc: Global,
-    book: &mut Book<OneTask>,
-    step: Key,
-    other: Key,
-) -> Result<(), Fail> {
+fn landed(rt: &impl Abort, alloc: Global, book: &mut Book<OneTask>) -> Result<(), Fail> {
+    let step = key(b"BETA", 23, 7)?;
+    let other = key(b"BETA", 23, 8)?;
     let now = moment(50)?;
     let outcomes = Outcomes {
         rc: 0,
@@ -292,10 +279,8 @@ fn landed(
 
 fn whole_files(rt: &impl Abort, alloc: Global, book: &mut Book<OneTask>) -> Result<(), Fail> {
     begin(rt, book)?;
-    let step = key(b"BETA", 23, 7)?;
-    let other = key(b"BETA", 23, 8)?;
-    received(rt, alloc, book, step, other)?;
-    landed(rt, alloc, book, step, other)?;
+    received(rt, alloc, book)?;
+    landed(rt, alloc, book)?;
     Ok(())
 }
 
