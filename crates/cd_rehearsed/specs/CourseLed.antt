@@ -45,7 +45,7 @@ use Rattle.cd_world.specs.Holds.{Extend}
 use Rattle.cd_world.specs.World.{At, A, B, World, seen_from, IsFirst, after}
 use Rattle.cd_rehearsed.specs.BegunLed.{HasHomeAlone, world_at_first, first_world, begun_world}
 use Rattle.cd_rehearsed.specs.ChoicesLed.{ChoiceIs, same_world}
-use Rattle.cd_rehearsed.specs.HalvesLed.{AreWorld}
+use Rattle.cd_rehearsed.specs.HalvesLed.{AreWorld, taken_in}
 use Rattle.cd_rehearsed.specs.Linked.{AreLinked}
 use Rattle.cd_rehearsed.specs.Joined.{AreJoined, EachTurn, InLine, AlwaysJoined}
 use Rattle.cd_rehearsed.specs.Led.{leads_none, leads_then, leads_across, seen_across}
@@ -138,11 +138,23 @@ reply_moment : (text : List ℕ) (answer : Reply) (here after : Half) → IsRepl
 reply_moment text answer here after (inl d) = d.done.only.same.moment
 reply_moment text answer here after (inr r) = ap (λ (half : Half). half.moment) r.same
 
+-- no session began, and nothing was taken of any
+pub record IsQuiet (before after : Half) : Type 0 where
+  pub taken : taken_in after ≡ taken_in before
+  pub sessions : length after.node.sessions ≡ length before.node.sessions
+
+put_quiet : (name bytes : List ℕ) (before after : Half) → WasPut name bytes before after → IsQuiet before after
+put_quiet name bytes before after was = record { taken = ap (λ (l : MemoryLines). (traffic_of l).taken) was.lines; sessions = ap (λ (n : NodeState). length n.sessions) was.node }
+
+reply_quiet : (text : List ℕ) (answer : Reply) (before after : Half) → IsReplyTo text answer before after → IsQuiet before after
+reply_quiet text answer before after (inl d) = record { taken = ap (λ (l : MemoryLines). (traffic_of l).taken) d.done.only.lines; sessions = ap length d.done.only.sessions.sessions }
+reply_quiet text answer before after (inr r) = record { taken = ap taken_in r.same; sessions = ap (λ (half : Half). length half.node.sessions) r.same }
+
 -- what a node did, while the other one stayed
 module _ (now : ℕ) (before after : Pair) (w : World) (h : IsWorld now before w) where
-  pub side_led : (p : Party) → OtherStays p before after → (half_of p after).moment ≡ (half_of p before).moment
+  pub side_led : (p : Party) → OtherStays p before after → (half_of p after).moment ≡ (half_of p before).moment → IsQuiet (half_of p before) (half_of p after)
       → ((x : At) (other : Half) (v : World) → AreWorld now (half_of p before) other v → (half_of p before).moment ≡ now → LeadsTo x v (AreWorld now (half_of p after) other)) → LeadsTo A w (IsWorld now after)
-  side_led party.A stays moment did =
+  side_led party.A stays moment quiet did =
       let led : LeadsTo A w (AreWorld now after.a before.b) = did A before.b w h.are h.moment_a in
       record {
         last = led.last;
@@ -151,10 +163,12 @@ module _ (now : ℕ) (before after : Pair) (w : World) (h : IsWorld now before w
           are = subst (λ (half : Half). AreWorld now after.a half led.last) (sym stays.0) led.so;
           moment_a = moment ∙ h.moment_a;
           moment_b = ap (λ (half : Half). half.moment) stays.0 ∙ h.moment_b;
-          links = subst AreLinked (sym (ap (λ l. l.items) stays.1)) h.links;
+          links = subst (λ (f : ℕ → List ℕ). AreLinked 1 f (taken_in after.b) after.links.items) (sym quiet.taken)
+              (subst (λ (half : Half). AreLinked 1 (taken_in before.a) (taken_in half) after.links.items) (sym stays.0) (subst (AreLinked 1 (taken_in before.a) (taken_in before.b)) (sym (ap (λ l. l.items) stays.1)) h.links));
+          counted = ap (λ l. length l.items) stays.1 ∙ h.counted ∙ sym quiet.sessions;
         };
       }
-  side_led party.B stays moment did =
+  side_led party.B stays moment quiet did =
       let led : LeadsTo B (seen_from B w) (AreWorld now after.b before.a) = did B before.a (seen_from B w) (seen_across canonical_reading now before.a.node before.b.node (told_of before.a) (told_of before.b) w h.are) h.moment_b in
       record {
         last = seen_from B led.last;
@@ -163,7 +177,9 @@ module _ (now : ℕ) (before after : Pair) (w : World) (h : IsWorld now before w
           are = seen_across canonical_reading now after.b.node after.a.node (told_of after.b) (told_of after.a) led.last (subst (λ (half : Half). AreWorld now after.b half led.last) (sym stays.0) led.so);
           moment_a = ap (λ (half : Half). half.moment) stays.0 ∙ h.moment_a;
           moment_b = moment ∙ h.moment_b;
-          links = subst AreLinked (sym (ap (λ l. l.items) stays.1)) h.links;
+          links = subst (λ (f : ℕ → List ℕ). AreLinked 1 (taken_in after.a) f after.links.items) (sym quiet.taken)
+              (subst (λ (half : Half). AreLinked 1 (taken_in half) (taken_in before.b) after.links.items) (sym stays.0) (subst (AreLinked 1 (taken_in before.a) (taken_in before.b)) (sym (ap (λ l. l.items) stays.1)) h.links));
+          counted = ap (λ l. length l.items) stays.1 ∙ h.counted ∙ sym (ap (λ (half : Half). length half.node.sessions) stays.0);
         };
       }
 
@@ -204,7 +220,7 @@ then_led w P Q one two =
 
 put_line : (now : ℕ) (p : Party) (name bytes : List ℕ) (before after : Course) (w : World) → IsWorld now before.pair w → PutAt p name bytes before after → LeadsTo A w (IsWorld now after.pair)
 put_line now p name bytes before after w h was =
-    side_led now before.pair after.pair w h p was.other was.put.moment (λ x other v are moment. half_put now (half_of p before.pair) (half_of p after.pair) other v x name bytes are was.put)
+    side_led now before.pair after.pair w h p was.other was.put.moment (put_quiet name bytes (half_of p before.pair) (half_of p after.pair) was.put) (λ x other v are moment. half_put now (half_of p before.pair) (half_of p after.pair) other v x name bytes are was.put)
 
 module _ (choice_is : ChoiceIs) (now : ℕ) where
   -- the last pair is joined too
@@ -235,7 +251,7 @@ module _ (choice_is : ChoiceIs) (now : ℕ) where
   line_led (Text p name bytes) before after w did homes each h joined joined_after = put_line now p name bytes before after w h did
   line_led (Fill p name n) before after w did homes each h joined joined_after = put_line now p name (filling n) before after w h did
   line_led (Do p text) before after w did homes each h joined joined_after =
-      side_led now before.pair after.pair w h p did.other (reply_moment text did.reply (half_of p before.pair) (half_of p after.pair) did.done)
+      side_led now before.pair after.pair w h p did.other (reply_moment text did.reply (half_of p before.pair) (half_of p after.pair) did.done) (reply_quiet text did.reply (half_of p before.pair) (half_of p after.pair) did.done)
       (λ x other v are moment. reply_led now (half_of p before.pair) (half_of p after.pair) other v x are moment (home_of p before.pair homes) text did.reply did.done)
   line_led (Turn n) before after w did homes each h joined joined_after = turns_line n before after w h joined joined_after did each
 
@@ -267,7 +283,8 @@ course_led choice_is priorities orders course (begun {course = first} is) always
           are = begun_world canonical_reading 1709287200 first.pair.a.node first.pair.b.node (told_of first.pair.a) (told_of first.pair.b) priorities (codes "ALPHA") (codes "BETA") 1 2 alone_a alone_b;
           moment_a = new.fresh_a.at;
           moment_b = new.fresh_b.at;
-          links = subst AreLinked (sym new.links) tt;
+          links = subst (AreLinked 1 (taken_in first.pair.a) (taken_in first.pair.b)) (sym new.links) tt;
+          counted = ap length new.links ∙ sym (ap length new.fresh_a.sessions);
         };
       };
     }

@@ -12,12 +12,12 @@ use Rattle.cd_plain.specs.Turned.{HadTurn, NoTurn, others_at, spot_of}
 use Rattle.cd_plain.specs.declared.handled.Handled.{Handled}
 use Rattle.cd_drill.specs.AtRest.{entries_of, told_of}
 use Rattle.cd_drill.specs.Course.{MadeTurns, none, more, Did, Ran, begun, done}
-use Rattle.cd_drill.specs.Pairs.{on_way, Turned, HandledIn}
+use Rattle.cd_drill.specs.Pairs.{Turned, HandledIn}
 use Rattle.cd_drill.specs.declared.course.Course.{Course}
 use Rattle.cd_drill.specs.declared.half.Half.{Half}
 use Rattle.cd_drill.specs.declared.pair.Link.{Link}
 use Rattle.cd_drill.specs.declared.pair.Pair.{Pair}
-use Rattle.cd_rehearsed.specs.Carried.{HeardAll, WrittenBy}
+use Rattle.cd_rehearsed.specs.Carried.{WrittenBy}
 use Rattle.cd_rehearsed.specs.Mirrors.{EachFrame}
 
 -- The lines of each node number its sessions one by one: the newest one's number is that of all. The Hello that a node says is a frame in
@@ -36,10 +36,10 @@ WroteIn sid answer before after (inl t) =
     (spot_of before.node t.session.phase (told_of before)) (spot_of after.node t.phase (told_of after)) sid.number t.turn
 WroteIn sid answer before after (inr t) = Unit {0}
 
--- So it was in a turn, and where nothing was on the way no call on the session failed.
+-- So it was in a turn at B, or at A.
 abbrev pub WroteAt : (at : ℕ) (link : Link) (before after : Pair) → HandledIn at link true before after → Type 0
-WroteAt at link before after (inl b) = HeardAll (on_way before.a link.at_a link.of_a) link.at_b.number (told_of after.b) × WroteIn link.at_b b.was.answer b.was.at after.b b.was.turned.turned
-WroteAt at link before after (inr a) = HeardAll (on_way before.b link.at_b link.of_b) link.at_a.number (told_of after.a) × WroteIn link.at_a a.was.answer a.was.at after.a a.was.turned.turned
+WroteAt at link before after (inl b) = WroteIn link.at_b b.was.answer b.was.at after.b b.was.turned.turned
+WroteAt at link before after (inr a) = WroteIn link.at_a a.was.answer a.was.at after.a a.was.turned.turned
 
 abbrev pub Wrote : (before after : Pair) → Turned before after → Type 0
 Wrote before after (inl one) = WroteAt one.at one.link before after one.handled

@@ -1,4 +1,5 @@
 pub mod BegunLed
+pub mod Brought
 pub mod Carried
 pub mod ChoicesLed
 pub mod ConnectedLed
