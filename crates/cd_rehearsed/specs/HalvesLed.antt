@@ -21,7 +21,7 @@ use Rattle.cd_plain.specs.NodeState.{NodeState}
 use Rattle.cd_plain.specs.Turned.{Told, HadTurn, NoTurn, spot_of}
 use Rattle.cd_plain.specs.declared.handled.Handled.{Handled}
 use Rattle.cd_plain.specs.declared.handled.Handled.TheVariants as handled
-use Rattle.cd_drill.specs.AtRest.{entries_of, told_of, TookTurn, Chose, WasOffered}
+use Rattle.cd_drill.specs.AtRest.{entries_of, told_of, IsSame, TookTurn, Chose, WasOffered}
 use Rattle.cd_drill.specs.Pairs.{frame_len, answer_to, CameOf, Accepted}
 use Rattle.cd_drill.specs.declared.half.Half.{Half}
 use Rattle.cd_world.specs.World.{At, World}
@@ -53,9 +53,9 @@ module _ (now : ℕ) (here at other : Half) (w : World) (h : AreWorld now here o
   came_world [] sid passed now_passed came = subst (λ (half : Half). AreWorld now half other w) (sym came.0) h
   came_world (b ∷ bytes) sid passed now_passed came = offered_world sid _ came.0
 
-pub came_moment : (way : List ℕ) (sid : Sid) (passed now_passed : ℕ) (here at : Half) → CameOf way sid passed here at now_passed → at.moment ≡ here.moment
-came_moment [] sid passed now_passed here at came = ap (λ (half : Half). half.moment) came.0
-came_moment (b ∷ bytes) sid passed now_passed here at came = came.0.moment
+pub came_same : (way : List ℕ) (sid : Sid) (passed now_passed : ℕ) (here at : Half) → CameOf way sid passed here at now_passed → IsSame here at
+came_same [] sid passed now_passed here at came = record { config = ap (λ (half : Half). half.node.config) came.0; moment = ap (λ (half : Half). half.moment) came.0 }
+came_same (b ∷ bytes) sid passed now_passed here at came = record { config = ap (λ (n : NodeState). n.config) came.0.node; moment = came.0.moment }
 
 pub came_sessions : (way : List ℕ) (sid : Sid) (passed now_passed : ℕ) (here at : Half) → CameOf way sid passed here at now_passed → length at.node.sessions ≡ length here.node.sessions
 came_sessions [] sid passed now_passed here at came = ap (λ (half : Half). length half.node.sessions) came.0

@@ -3,14 +3,12 @@ use Rattle.std.specs.Prelude.{◌≡◌, ◌⊎◌, ℕ, List, length, true}
 use Rattle.std.proofs.Common.{inl, inr}
 use Rattle.cd_outside.specs.declared.sid.Sid.{Sid}
 use Rattle.cd_script.specs.Script.{Order, Text, Fill, Do, Turn}
-use Rattle.cd_status.specs.Processes.{own_home}
 use Rattle.cd_memory.specs.MemoryLines.{last_of}
-use Rattle.cd_moves.specs.Rows.{hello}
 use Rattle.cd_reading.specs.Read.{canonical_reading}
 use Rattle.cd_handling.specs.Setting.{setting_of}
 use Rattle.cd_plain.specs.Turned.{HadTurn, NoTurn, others_at, spot_of}
 use Rattle.cd_plain.specs.declared.handled.Handled.{Handled}
-use Rattle.cd_drill.specs.AtRest.{entries_of, told_of}
+use Rattle.cd_drill.specs.AtRest.{told_of}
 use Rattle.cd_drill.specs.Course.{MadeTurns, none, more, Did, Ran, begun, done}
 use Rattle.cd_drill.specs.Pairs.{Turned, HandledIn}
 use Rattle.cd_drill.specs.declared.course.Course.{Course}
@@ -18,15 +16,11 @@ use Rattle.cd_drill.specs.declared.half.Half.{Half}
 use Rattle.cd_drill.specs.declared.pair.Link.{Link}
 use Rattle.cd_drill.specs.declared.pair.Pair.{Pair}
 use Rattle.cd_rehearsed.specs.Carried.{WrittenBy}
-use Rattle.cd_rehearsed.specs.Mirrors.{EachFrame}
 
--- The lines of each node number its sessions one by one: the newest one's number is that of all. The Hello that a node says is a frame in
--- its form.
+-- The lines of each node number its sessions one by one: the newest one's number is that of all.
 pub record AreJoined (pair : Pair) : Type 0 where
   pub counted_a : last_of pair.a.lines ≡ length pair.a.node.sessions
   pub counted_b : last_of pair.b.lines ≡ length pair.b.node.sessions
-  pub greets_a : EachFrame (hello (own_home (entries_of pair.a)) pair.a.node.config.block)
-  pub greets_b : EachFrame (hello (own_home (entries_of pair.b)) pair.b.node.config.block)
 
 -- The frames that were sent in a turn are in their form.
 abbrev pub WroteIn : (sid : Sid) (answer : Handled) (before after : Half)

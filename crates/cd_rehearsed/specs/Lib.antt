@@ -5,6 +5,7 @@ pub mod ChoicesLed
 pub mod ConnectedLed
 pub mod CourseLed
 pub mod DeedsDone
+pub mod Greeted
 pub mod HalvesLed
 pub mod Joined
 pub mod Led

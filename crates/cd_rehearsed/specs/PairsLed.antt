@@ -13,7 +13,7 @@ use Rattle.cd_plain.specs.Choice.{Accepted, MadeSession}
 use Rattle.cd_plain.specs.declared.handled.Handled.{Handled}
 use Rattle.cd_plain.specs.declared.handled.Handled.TheVariants as handled
 use Rattle.cd_reading.specs.Read.{canonical_reading}
-use Rattle.cd_drill.specs.AtRest.{told_of, entries_of, Chose, Took}
+use Rattle.cd_drill.specs.AtRest.{told_of, entries_of, IsSame, Chose, Took}
 use Rattle.cd_drill.specs.Pairs.{Turned, HandledIn, HandledAtB, HandledAtA, on_way, CameOf, with_a, with_b, FollowedBy, has_more, newest, newest_of, ChoseAtA, ChoseAtB, ChoseThere, ChoseBehind, FoundNothing}
 use Rattle.cd_drill.specs.declared.half.Half.{Half}
 use Rattle.cd_drill.specs.declared.pair.Link.{Link}
@@ -21,7 +21,7 @@ use Rattle.cd_drill.specs.declared.pair.Pair.{Pair}
 use Rattle.cd_world.specs.World.{A, B, World, seen_from}
 use Rattle.cd_rehearsed.specs.Brought.{Brought}
 use Rattle.cd_rehearsed.specs.ChoicesLed.{ChoiceIs}
-use Rattle.cd_rehearsed.specs.HalvesLed.{AreWorld, taken_in, came_world, came_moment, came_sessions, came_taken, came_passed, half_turned, half_counted, half_elsewhere, half_sessions, chose_taken, Follows, AreCounted, chose_led}
+use Rattle.cd_rehearsed.specs.HalvesLed.{AreWorld, taken_in, came_world, came_same, came_sessions, came_taken, came_passed, half_turned, half_counted, half_elsewhere, half_sessions, chose_taken, Follows, AreCounted, chose_led}
 use Rattle.cd_rehearsed.specs.Joined.{AreJoined, WroteAt, Wrote}
 use Rattle.cd_rehearsed.specs.Led.{leads_across, seen_across}
 use Rattle.cd_rehearsed.specs.Linked.{IsLinked, AreLinked, linked_at, linked_set, linked_more}
@@ -35,6 +35,13 @@ pub record IsWorld (now : ℕ) (pair : Pair) (w : World) : Type 0 where
   pub moment_b : pair.b.moment ≡ now
   pub links : AreLinked 1 (taken_in pair.a) (taken_in pair.b) pair.links.items
   pub counted : length pair.links.items ≡ length pair.a.node.sessions
+  pub block_a : pair.a.node.config.block ≡ 8192
+  pub block_b : pair.b.node.config.block ≡ 8192
+
+-- what each of them says first is a frame in its form
+pub record AreGreeting (pair : Pair) : Type 0 where
+  pub a : EachFrame (hello (own_home (entries_of pair.a)) pair.a.node.config.block)
+  pub b : EachFrame (hello (own_home (entries_of pair.b)) pair.b.node.config.block)
 
 -- what was led to from the other view
 from_b : (now : ℕ) (a b : Half) (w : World) → LeadsTo B (seen_from B w) (AreWorld now b a) → LeadsTo A w (AreWorld now a b)
@@ -43,6 +50,13 @@ from_b now a b w led = record {
   leads = leads_across (seen_from B w) led.last led.leads;
   so = seen_across canonical_reading now b.node a.node (told_of b) (told_of a) led.last led.so;
 }
+
+-- how a node is set up, and its moment
+stays_same : (here after : Half) → after ≡ here → IsSame here after
+stays_same here after is = record { config = ap (λ (half : Half). half.node.config) is; moment = ap (λ (half : Half). half.moment) is }
+
+same_then : (here between after : Half) → IsSame here between → IsSame between after → IsSame here after
+same_then here between after one two = record { config = two.config ∙ one.config; moment = two.moment ∙ one.moment }
 
 -- what is on the way to a node in a session comes to it
 brought_to : (from to at after : Half) (from_sid sid : Sid) (passed now_passed : ℕ) → from_sid.number ≡ sid.number → passed ≡ length (taken_in to sid.number) → CameOf (on_way from from_sid passed) sid passed to at now_passed
@@ -59,14 +73,26 @@ module _ (now : ℕ) (before after : Pair) (w : World) (h : IsWorld now before w
   across_world : AreWorld now before.b before.a (seen_from B w)
   across_world = seen_across canonical_reading now before.a.node before.b.node (told_of before.a) (told_of before.b) w h.are
 
-  whole : (moment_a : after.a.moment ≡ now) (moment_b : after.b.moment ≡ now) → AreLinked 1 (taken_in after.a) (taken_in after.b) after.links.items → length after.links.items ≡ length after.a.node.sessions
+  whole : (same_a : IsSame before.a after.a) (same_b : IsSame before.b after.b) → AreLinked 1 (taken_in after.a) (taken_in after.b) after.links.items → length after.links.items ≡ length after.a.node.sessions
       → LeadsTo A w (AreWorld now after.a after.b) → LeadsTo A w (IsWorld now after)
-  whole moment_a moment_b links counted led = record { last = led.last; leads = led.leads; so = record { are = led.so; moment_a = moment_a; moment_b = moment_b; links = links; counted = counted } }
+  whole same_a same_b links counted led = record {
+    last = led.last;
+    leads = led.leads;
+    so = record {
+      are = led.so;
+      moment_a = same_a.moment ∙ h.moment_a;
+      moment_b = same_b.moment ∙ h.moment_b;
+      links = links;
+      counted = counted;
+      block_a = ap (λ c. c.block) same_a.config ∙ h.block_a;
+      block_b = ap (λ c. c.block) same_b.config ∙ h.block_b;
+    };
+  }
 
   at_b : (at : ℕ) (link : Link) → slice_get before.links.items at ≡ Some link → (b : HandledAtB at link before after) → WroteAt at link before after (inl b) → LeadsTo A w (IsWorld now after)
   at_b at link stands b wrote =
       let linked : IsLinked (1 + at) (taken_in before.a) (taken_in before.b) link = linked_at 1 (1 + at) (taken_in before.a) (taken_in before.b) before.links.items at link refl h.links stands in
-      let moment_at : b.was.at.moment ≡ now = came_moment (on_way before.a link.at_a link.of_a) link.at_b link.of_a b.passed before.b b.was.at b.was.came ∙ h.moment_b in
+      let moment_at : b.was.at.moment ≡ now = (came_same (on_way before.a link.at_a link.of_a) link.at_b link.of_a b.passed before.b b.was.at b.was.came).moment ∙ h.moment_b in
       let ready : AreWorld now b.was.at before.a (seen_from B w) = came_world now before.b b.was.at before.a (seen_from B w) across_world (on_way before.a link.at_a link.of_a) link.at_b link.of_a b.passed b.was.came in
       let brought : Brought (on_way before.a link.at_a link.of_a) link.of_a b.passed (taken_in b.was.at link.at_b.number) (taken_in after.b link.at_b.number) ((traffic_of before.a.lines).given link.at_b.number) =
       brought_to before.a before.b b.was.at after.b link.at_a link.at_b link.of_a b.passed (linked.at_a ∙ sym linked.at_b) (linked.of_a ∙ ap (λ (n : ℕ). length (taken_in before.b n)) (sym linked.at_b)) b.was.came b.was.taken in
@@ -80,9 +106,9 @@ module _ (now : ℕ) (before after : Pair) (w : World) (h : IsWorld now before w
         of_b = linked.of_b;
       } in
       let others : (k : ℕ) → eqb (1 + at) k ≡ false → taken_in after.b k ≡ taken_in before.b k = λ k apart.
-          half_elsewhere b.was.at after.b link.at_b b.was.answer b.was.turned k (ap (λ (n : ℕ). eqb n k) linked.at_b ∙ apart)
-          ∙ ap (λ (f : ℕ → List ℕ). f k) (came_taken (on_way before.a link.at_a link.of_a) link.at_b link.of_a b.passed before.b b.was.at b.was.came) in
-      whole (ap (λ (half : Half). half.moment) b.other ∙ h.moment_a) (b.was.turned.same.moment ∙ moment_at)
+      half_elsewhere b.was.at after.b link.at_b b.was.answer b.was.turned k (ap (λ (n : ℕ). eqb n k) linked.at_b ∙ apart)
+      ∙ ap (λ (f : ℕ → List ℕ). f k) (came_taken (on_way before.a link.at_a link.of_a) link.at_b link.of_a b.passed before.b b.was.at b.was.came) in
+      whole (stays_same before.a after.a b.other) (same_then before.b b.was.at after.b (came_same (on_way before.a link.at_a link.of_a) link.at_b link.of_a b.passed before.b b.was.at b.was.came) b.was.turned.same)
       (subst (λ (half : Half). AreLinked 1 (taken_in half) (taken_in after.b) after.links.items) (sym b.other) (subst (AreLinked 1 (taken_in before.a) (taken_in after.b)) (sym b.links)
       (linked_set (1 + at) (taken_in before.a) (taken_in before.b) (taken_in before.a) (taken_in after.b) (λ k apart. refl) others 1 before.links.items at (with_a link b.passed) refl h.links one)))
       (ap length b.links ∙ set_length before.links.items at (with_a link b.passed) ∙ h.counted ∙ sym (ap (λ (half : Half). length half.node.sessions) b.other))
@@ -91,7 +117,7 @@ module _ (now : ℕ) (before after : Pair) (w : World) (h : IsWorld now before w
   at_a : (at : ℕ) (link : Link) → slice_get before.links.items at ≡ Some link → (a : HandledAtA at link before after) → WroteAt at link before after (inr a) → LeadsTo A w (IsWorld now after)
   at_a at link stands a wrote =
       let linked : IsLinked (1 + at) (taken_in before.a) (taken_in before.b) link = linked_at 1 (1 + at) (taken_in before.a) (taken_in before.b) before.links.items at link refl h.links stands in
-      let moment_at : a.was.at.moment ≡ now = came_moment (on_way before.b link.at_b link.of_b) link.at_a link.of_b a.passed before.a a.was.at a.was.came ∙ h.moment_a in
+      let moment_at : a.was.at.moment ≡ now = (came_same (on_way before.b link.at_b link.of_b) link.at_a link.of_b a.passed before.a a.was.at a.was.came).moment ∙ h.moment_a in
       let ready : AreWorld now a.was.at before.b w = came_world now before.a a.was.at before.b w h.are (on_way before.b link.at_b link.of_b) link.at_a link.of_b a.passed a.was.came in
       let brought : Brought (on_way before.b link.at_b link.of_b) link.of_b a.passed (taken_in a.was.at link.at_a.number) (taken_in after.a link.at_a.number) ((traffic_of before.b.lines).given link.at_a.number) =
       brought_to before.b before.a a.was.at after.a link.at_b link.at_a link.of_b a.passed (linked.at_b ∙ sym linked.at_a) (linked.of_b ∙ ap (λ (n : ℕ). length (taken_in before.a n)) (sym linked.at_a)) a.was.came a.was.taken in
@@ -105,9 +131,9 @@ module _ (now : ℕ) (before after : Pair) (w : World) (h : IsWorld now before w
             ∙ ap (λ (n : ℕ). length (taken_in after.a n)) linked.at_a;
       } in
       let others : (k : ℕ) → eqb (1 + at) k ≡ false → taken_in after.a k ≡ taken_in before.a k = λ k apart.
-          half_elsewhere a.was.at after.a link.at_a a.was.answer a.was.turned k (ap (λ (n : ℕ). eqb n k) linked.at_a ∙ apart)
-          ∙ ap (λ (f : ℕ → List ℕ). f k) (came_taken (on_way before.b link.at_b link.of_b) link.at_a link.of_b a.passed before.a a.was.at a.was.came) in
-      whole (a.was.turned.same.moment ∙ moment_at) (ap (λ (half : Half). half.moment) a.other ∙ h.moment_b)
+      half_elsewhere a.was.at after.a link.at_a a.was.answer a.was.turned k (ap (λ (n : ℕ). eqb n k) linked.at_a ∙ apart)
+      ∙ ap (λ (f : ℕ → List ℕ). f k) (came_taken (on_way before.b link.at_b link.of_b) link.at_a link.of_b a.passed before.a a.was.at a.was.came) in
+      whole (same_then before.a a.was.at after.a (came_same (on_way before.b link.at_b link.of_b) link.at_a link.of_b a.passed before.a a.was.at a.was.came) a.was.turned.same) (stays_same before.b after.b a.other)
       (subst (λ (half : Half). AreLinked 1 (taken_in after.a) (taken_in half) after.links.items) (sym a.other) (subst (AreLinked 1 (taken_in after.a) (taken_in before.b)) (sym a.links)
       (linked_set (1 + at) (taken_in before.a) (taken_in before.b) (taken_in after.a) (taken_in before.b) others (λ k apart. refl) 1 before.links.items at (with_b link a.passed) refl h.links one)))
       (ap length a.links ∙ set_length before.links.items at (with_b link a.passed) ∙ h.counted
@@ -147,8 +173,12 @@ took_none before after took = by_accepted took.accepted where
 made_length : (before after : Half) → MadeSession (last_of before.lines) (last_of after.lines) before.node after.node → (more : Bool) → has_more before after ≡ more → length after.node.sessions ≡ length before.node.sessions + cond more 1 0
 made_length before after (inl one) true is = omega (arith, ap (λ (l : List Session). length l) one.opened.sessions, length-append before.node.sessions ((record { sid = record { number = last_of after.lines }; phase = one.opened.phase }) ∷ []))
 made_length before after (inl one) false is =
-    absurd (omega (arith, ltb-false (length before.node.sessions) (length after.node.sessions) is, ap (λ (l : List Session). length l) one.opened.sessions,
-    length-append before.node.sessions ((record { sid = record { number = last_of after.lines }; phase = one.opened.phase }) ∷ [])))
+    absurd (omega (
+      arith,
+      ltb-false (length before.node.sessions) (length after.node.sessions) is,
+      ap (λ (l : List Session). length l) one.opened.sessions,
+      length-append before.node.sessions ((record { sid = record { number = last_of after.lines }; phase = one.opened.phase }) ∷ []),
+    ))
 made_length before after (inr none) true is = absurd (omega (arith, ltb-true (length before.node.sessions) (length after.node.sessions) is, ap (λ (l : List Session). length l) none.sessions))
 made_length before after (inr none) false is = omega (arith, ap (λ (l : List Session). length l) none.sessions)
 
@@ -200,14 +230,14 @@ followed_there : (more : Bool) (other other_after : Half) (new links links_after
 followed_there true other other_after new links links_after f = f.0
 followed_there false other other_after new links links_after f = f.0
 
-followed_moment : (more : Bool) (other other_after : Half) (new links links_after : List Link) → FollowedBy more other other_after new links links_after → other_after.moment ≡ other.moment
-followed_moment true other other_after new links links_after f = f.0.took.same.moment
-followed_moment false other other_after new links links_after f = ap (λ (half : Half). half.moment) f.0
+followed_same : (more : Bool) (other other_after : Half) (new links links_after : List Link) → FollowedBy more other other_after new links links_after → IsSame other other_after
+followed_same true other other_after new links links_after f = f.0.took.same
+followed_same false other other_after new links links_after f = stays_same other other_after f.0
 
 module _ (choice_is : ChoiceIs) (now : ℕ) (before after : Pair) (w : World) (h : IsWorld now before w) where
-  pub chose_at_a : AreJoined before → AreJoined after → (answer : Handled) → ((sid : Sid) → answer ≡ handled.Lost sid → ⊥) → ChoseAtA answer before after → LeadsTo A w (IsWorld now after)
-  chose_at_a joined joined_after answer stays c =
-      whole now before after w h (c.chose.same.moment ∙ h.moment_a) (followed_moment (has_more before.a after.a) before.b after.b _ _ _ c.followed ∙ h.moment_b)
+  pub chose_at_a : AreGreeting before → AreJoined after → (answer : Handled) → ((sid : Sid) → answer ≡ handled.Lost sid → ⊥) → ChoseAtA answer before after → LeadsTo A w (IsWorld now after)
+  chose_at_a greeting joined_after answer stays c =
+      whole now before after w h c.chose.same (followed_same (has_more before.a after.a) before.b after.b _ _ _ c.followed)
       (followed_links before.b after.b (record { at_a = newest_of after.a; at_b = newest_of after.b; of_a = 0; of_b = 0 }) before.links.items after.links.items (taken_in after.a) (taken_in after.b) (has_more before.a after.a) c.followed
       one (subst (λ (f : ℕ → List ℕ). AreLinked 1 f (taken_in after.b) before.links.items) (sym same_a) (subst (λ (f : ℕ → List ℕ). AreLinked 1 (taken_in before.a) f before.links.items) (sym same_b) h.links)))
       (followed_length before.b after.b (record { at_a = newest_of after.a; at_b = newest_of after.b; of_a = 0; of_b = 0 }) before.links.items after.links.items (taken_in after.a) (taken_in after.b) (has_more before.a after.a) c.followed
@@ -215,7 +245,7 @@ module _ (choice_is : ChoiceIs) (now : ℕ) (before after : Pair) (w : World) (h
       (chose_led choice_is now before.a after.a before.b after.b w A h.are (record {
         moment = h.moment_a;
         counted = counted_by after (has_more before.a after.a) joined_after;
-        greets = joined.greets_a;
+        greets = greeting.a;
       }) answer stays c.chose (followed_there (has_more before.a after.a) before.b after.b _ _ _ c.followed))
     where
       same_a : taken_in after.a ≡ taken_in before.a
@@ -260,13 +290,15 @@ module _ (choice_is : ChoiceIs) (now : ℕ) (before after : Pair) (w : World) (h
     links = subst (λ (half : Half). AreLinked 1 (taken_in half) (taken_in after.b) after.links.items) (sym s.a)
         (subst (λ (half : Half). AreLinked 1 (taken_in before.a) (taken_in half) after.links.items) (sym s.b) (subst (AreLinked 1 (taken_in before.a) (taken_in before.b)) (sym s.links) h.links));
     counted = ap length s.links ∙ h.counted ∙ sym (ap (λ (half : Half). length half.node.sessions) s.a);
+    block_a = ap (λ (half : Half). half.node.config.block) s.a ∙ h.block_a;
+    block_b = ap (λ (half : Half). half.node.config.block) s.b ∙ h.block_b;
   }
 
 module _ (choice_is : ChoiceIs) (now : ℕ) (before between after : Pair) (w : World) (h : IsWorld now before w) where
   -- B chose, where A had nothing to choose
-  pub chose_behind : AreJoined before → AreJoined after → (answer : Handled) → ((sid : Sid) → answer ≡ handled.Lost sid → ⊥) → ChoseAtA handled.Idle before between → ChoseAtB answer between after → LeadsTo A w (IsWorld now after)
-  chose_behind joined joined_after answer stays idle c =
-      whole now before after w h (followed_moment (has_more between.b after.b) between.a after.a _ _ _ c.followed ∙ at_between.moment_a) (c.chose.same.moment ∙ at_between.moment_b)
+  pub chose_behind : AreGreeting before → AreJoined after → (answer : Handled) → ((sid : Sid) → answer ≡ handled.Lost sid → ⊥) → ChoseAtA handled.Idle before between → ChoseAtB answer between after → LeadsTo A w (IsWorld now after)
+  chose_behind greeting joined_after answer stays idle c =
+      whole now between after w at_between (followed_same (has_more between.b after.b) between.a after.a _ _ _ c.followed) c.chose.same
       (followed_links between.a after.a (record { at_a = newest_of after.a; at_b = newest_of after.b; of_a = 0; of_b = 0 }) between.links.items after.links.items (taken_in after.a) (taken_in after.b) (has_more between.b after.b) c.followed
       one (subst (λ (f : ℕ → List ℕ). AreLinked 1 f (taken_in after.b) between.links.items) (sym same_a) (subst (λ (f : ℕ → List ℕ). AreLinked 1 (taken_in between.a) f between.links.items) (sym same_b) at_between.links)))
       (followed_length between.a after.a (record { at_a = newest_of after.a; at_b = newest_of after.b; of_a = 0; of_b = 0 }) between.links.items after.links.items (taken_in after.a) (taken_in after.b) (has_more between.b after.b) c.followed
@@ -280,7 +312,7 @@ module _ (choice_is : ChoiceIs) (now : ℕ) (before between after : Pair) (w : W
       led = chose_led choice_is now between.b after.b between.a after.a (seen_from B w) B (across_world now between after w at_between) (record {
         moment = at_between.moment_b;
         counted = counted_across (has_more between.b after.b) after.a after.b (counted_by after (has_more between.b after.b) joined_after);
-        greets = subst (λ (half : Half). EachFrame (hello (own_home (entries_of half)) half.node.config.block)) (sym (idle_at_a choice_is now before between w h idle).b) joined.greets_b;
+        greets = subst (λ (half : Half). EachFrame (hello (own_home (entries_of half)) half.node.config.block)) (sym (idle_at_a choice_is now before between w h idle).b) greeting.b;
       }) answer stays c.chose (followed_there (has_more between.b after.b) between.a after.a _ _ _ c.followed)
 
       same_b : taken_in after.b ≡ taken_in between.b
@@ -308,14 +340,14 @@ idle_stays : (sid : Sid) → handled.Idle ≡ handled.Lost sid → ⊥
 idle_stays sid is = absurd cc
 
 -- A turn that did something.
-pub turned_led : (choice_is : ChoiceIs) (now : ℕ) (before after : Pair) (w : World) → IsWorld now before w → AreJoined before → AreJoined after → (turned : Turned before after) → Wrote before after turned → LeadsTo A w (IsWorld now after)
-turned_led choice_is now before after w h joined joined_after (inl one) wrote = handled_led now before after w h one.at one.link one.stands one.handled wrote
-turned_led choice_is now before after w h joined joined_after (inr chose) wrote = by_one chose.1 where
+pub turned_led : (choice_is : ChoiceIs) (now : ℕ) (before after : Pair) (w : World) → IsWorld now before w → AreGreeting before → AreJoined after → (turned : Turned before after) → Wrote before after turned → LeadsTo A w (IsWorld now after)
+turned_led choice_is now before after w h greeting joined_after (inl one) wrote = handled_led now before after w h one.at one.link one.stands one.handled wrote
+turned_led choice_is now before after w h greeting joined_after (inr chose) wrote = by_one chose.1 where
   by_one : ChoseThere before after ⊎ ChoseBehind before after → LeadsTo A w (IsWorld now after)
-  by_one (inl there) = chose_at_a choice_is now before after w h joined joined_after handled.Went went_stays there.chose
-  by_one (inr behind) = chose_behind choice_is now before behind.between after w h joined joined_after handled.Went went_stays behind.idle behind.chose
+  by_one (inl there) = chose_at_a choice_is now before after w h greeting joined_after handled.Went went_stays there.chose
+  by_one (inr behind) = chose_behind choice_is now before behind.between after w h greeting joined_after handled.Went went_stays behind.idle behind.chose
 
 -- A turn that found nothing to do.
-pub nothing_led : (choice_is : ChoiceIs) (now : ℕ) (before after : Pair) (w : World) → IsWorld now before w → AreJoined before → AreJoined after → FoundNothing before after → LeadsTo A w (IsWorld now after)
-nothing_led choice_is now before after w h joined joined_after found =
-    chose_behind choice_is now before found.1.between after w h joined joined_after handled.Idle idle_stays found.1.idle found.1.still
+pub nothing_led : (choice_is : ChoiceIs) (now : ℕ) (before after : Pair) (w : World) → IsWorld now before w → AreGreeting before → AreJoined after → FoundNothing before after → LeadsTo A w (IsWorld now after)
+nothing_led choice_is now before after w h greeting joined_after found =
+    chose_behind choice_is now before found.1.between after w h greeting joined_after handled.Idle idle_stays found.1.idle found.1.still
