@@ -1,6 +1,6 @@
--- What is asked of the lines between two nodes, beside what the nodes promise.
+-- What is asked of the frames that a node sends, beside what the nodes promise.
 use Rattle.std.proofs.Common.{inl, inr}
-use Rattle.std.specs.Prelude.{◌≡◌, ℕ, List, [], ◌∷◌, ◌++◌}
+use Rattle.std.specs.Prelude.{ℕ, List}
 use Rattle.cd_outside.specs.Lines.{LineCounts}
 use Rattle.cd_frames.specs.Reading as streams
 use Rattle.cd_legal.specs.Steps.{Reading}
@@ -11,20 +11,9 @@ use Rattle.cd_node.specs.Question.{Setting}
 use Rattle.cd_node.specs.declared.session.Session.{Session}
 use Rattle.cd_handling.specs.Handling.{Case, the_case, IsOf, WasHandled}
 use Rattle.cd_handling.specs.Turn.{TookTurn, heard_at}
-use Rattle.cd_plain.specs.Turned.{Told}
 use Rattle.cd_handling.specs.declared.ending.Ending.{Ending}
 use Rattle.cd_handling.specs.declared.ending.Ending.TheVariants.{Went, Lost, Troubled}
 use Rattle.cd_rehearsed.specs.Mirrors.{EachFrame}
-
--- What was taken of a session begins what was given to it.
-pub record TookOnly (taken given : List ℕ) : Type 0 where
-  pub later : List ℕ
-  pub is : given ≡ taken ++ later
-
--- Where nothing is on the way in a session, no call on it failed.
-abbrev pub HeardAll : List ℕ → ℕ → Told → Type 0
-HeardAll [] number told = told.counts.faults number ≡ 0
-HeardAll (b ∷ bytes) number told = Unit {0}
 
 -- The frames that a turn sends are in their form: their fields are in their range, so that their bytes tell them.
 abbrev pub WrittenIn : (it : Case) (before_counts counts : LineCounts) (ending : Ending) (before after : Spot) → WasHandled it before_counts counts ending before after → Type 0

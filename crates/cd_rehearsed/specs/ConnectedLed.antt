@@ -92,6 +92,7 @@ unread_spoken : (other : NodeState) (number : ℕ) (reader : streams.Reading) (t
 unread_spoken other number reader taken given way ended unread none bytes each waits = record {
   heard = [];
   run = subst (λ (bytes : List ℕ). Run bytes [] reader) (sym none) (made reader unread.place unread.rest);
+  all_heard = none;
   bytes = bytes;
   each = each;
   ends = λ is. let never : true ≡ false = sym is ∙ waits in absurd cc;

@@ -1,5 +1,5 @@
 -- A whole course of a drill, in the world.
-use Rattle.std.proofs.Common.{◌≡◌, inl, inr, ℕ, ◌+◌, leb, Bool, true, false, cond, ◌&&◌, List, [], ◌∷◌, ◌++◌, length, Option, None, refl, sym, ◌∙◌, ap, subst, arith}
+use Rattle.std.proofs.Common.{◌≡◌, inl, inr, ℕ, ◌+◌, ◌^◌, ◌<◌, ◌≤◌, leb, Bool, true, false, cond, ◌&&◌, List, [], ◌∷◌, ◌++◌, length, Option, None, refl, sym, ◌∙◌, ap, subst, arith}
 use Rattle.std.specs.Prelude.{codes, Result, Ok, Err}
 use Rattle.std.specs.List.{list_all}
 use Rattle.std.specs.Str.{bytes_eq}
@@ -12,7 +12,7 @@ use Rattle.cd_entries.specs.declared.entry.Entry.{Entry}
 use Rattle.cd_entries.specs.declared.entry.Entry.TheVariants as entry
 use Rattle.cd_status.specs.Processes.{submitted, live_numbers}
 use Rattle.cd_filing.specs.Filing.{filed}
-use Rattle.cd_legal.specs.Legal.{is_empty}
+use Rattle.cd_legal.specs.Legal.{is_empty, is_legal}
 use Rattle.cd_legal.specs.Promises.{HavePriorities}
 use Rattle.cd_memory.specs.MemoryFiles as files
 use Rattle.cd_memory.specs.MemoryLines.{traffic_of}
@@ -40,18 +40,19 @@ use Rattle.cd_drill.specs.Commanded.{OnlyRecords, WasDone, IsReplyTo}
 use Rattle.cd_drill.specs.declared.course.Course.{Course}
 use Rattle.cd_drill.specs.declared.half.Half.{Half}
 use Rattle.cd_drill.specs.declared.pair.Pair.{Pair}
-use Rattle.cd_world.specs.GrownLaw.{events_extend}
-use Rattle.cd_world.specs.Holds.{Extend}
+use Rattle.cd_world.specs.GrownLaw.{events_extend, events_legal}
+use Rattle.cd_world.specs.Holds.{journal_of, AreLegal, Extend}
 use Rattle.cd_world.specs.World.{At, A, B, World, seen_from, IsFirst, after}
 use Rattle.cd_rehearsed.specs.BegunLed.{HasHomeAlone, world_at_first, first_world, begun_world}
 use Rattle.cd_rehearsed.specs.ChoicesLed.{ChoiceIs, same_world}
-use Rattle.cd_rehearsed.specs.HalvesLed.{AreWorld}
+use Rattle.cd_rehearsed.specs.Greeted.{hello_frames}
+use Rattle.cd_rehearsed.specs.HalvesLed.{AreWorld, taken_in}
 use Rattle.cd_rehearsed.specs.Linked.{AreLinked}
 use Rattle.cd_rehearsed.specs.Joined.{AreJoined, EachTurn, InLine, AlwaysJoined}
 use Rattle.cd_rehearsed.specs.Led.{leads_none, leads_then, leads_across, seen_across}
 use Rattle.cd_rehearsed.specs.Mirrors.{IsWorldOf, LeadsTo}
 use Rattle.cd_rehearsed.specs.OthersLed.{put_led, submit_led}
-use Rattle.cd_rehearsed.specs.PairsLed.{IsWorld, turned_led, nothing_led}
+use Rattle.cd_rehearsed.specs.PairsLed.{IsWorld, AreGreeting, turned_led, nothing_led}
 
 -- A file that is put at a node.
 half_put : (now : ℕ) (here after other : Half) (w : World) (x : At) (name bytes : List ℕ) → AreWorld now here other w → WasPut name bytes here after → LeadsTo x w (AreWorld now after other)
@@ -138,11 +139,24 @@ reply_moment : (text : List ℕ) (answer : Reply) (here after : Half) → IsRepl
 reply_moment text answer here after (inl d) = d.done.only.same.moment
 reply_moment text answer here after (inr r) = ap (λ (half : Half). half.moment) r.same
 
+-- no session began, and nothing was taken of any
+pub record IsQuiet (before after : Half) : Type 0 where
+  pub taken : taken_in after ≡ taken_in before
+  pub sessions : length after.node.sessions ≡ length before.node.sessions
+  pub config : after.node.config ≡ before.node.config
+
+put_quiet : (name bytes : List ℕ) (before after : Half) → WasPut name bytes before after → IsQuiet before after
+put_quiet name bytes before after was = record { taken = ap (λ (l : MemoryLines). (traffic_of l).taken) was.lines; sessions = ap (λ (n : NodeState). length n.sessions) was.node; config = ap (λ (n : NodeState). n.config) was.node }
+
+reply_quiet : (text : List ℕ) (answer : Reply) (before after : Half) → IsReplyTo text answer before after → IsQuiet before after
+reply_quiet text answer before after (inl d) = record { taken = ap (λ (l : MemoryLines). (traffic_of l).taken) d.done.only.lines; sessions = ap length d.done.only.sessions.sessions; config = d.done.only.same.config }
+reply_quiet text answer before after (inr r) = record { taken = ap taken_in r.same; sessions = ap (λ (half : Half). length half.node.sessions) r.same; config = ap (λ (half : Half). half.node.config) r.same }
+
 -- what a node did, while the other one stayed
 module _ (now : ℕ) (before after : Pair) (w : World) (h : IsWorld now before w) where
-  pub side_led : (p : Party) → OtherStays p before after → (half_of p after).moment ≡ (half_of p before).moment
+  pub side_led : (p : Party) → OtherStays p before after → (half_of p after).moment ≡ (half_of p before).moment → IsQuiet (half_of p before) (half_of p after)
       → ((x : At) (other : Half) (v : World) → AreWorld now (half_of p before) other v → (half_of p before).moment ≡ now → LeadsTo x v (AreWorld now (half_of p after) other)) → LeadsTo A w (IsWorld now after)
-  side_led party.A stays moment did =
+  side_led party.A stays moment quiet did =
       let led : LeadsTo A w (AreWorld now after.a before.b) = did A before.b w h.are h.moment_a in
       record {
         last = led.last;
@@ -151,10 +165,14 @@ module _ (now : ℕ) (before after : Pair) (w : World) (h : IsWorld now before w
           are = subst (λ (half : Half). AreWorld now after.a half led.last) (sym stays.0) led.so;
           moment_a = moment ∙ h.moment_a;
           moment_b = ap (λ (half : Half). half.moment) stays.0 ∙ h.moment_b;
-          links = subst AreLinked (sym (ap (λ l. l.items) stays.1)) h.links;
+          links = subst (λ (f : ℕ → List ℕ). AreLinked 1 f (taken_in after.b) after.links.items) (sym quiet.taken)
+              (subst (λ (half : Half). AreLinked 1 (taken_in before.a) (taken_in half) after.links.items) (sym stays.0) (subst (AreLinked 1 (taken_in before.a) (taken_in before.b)) (sym (ap (λ l. l.items) stays.1)) h.links));
+          counted = ap (λ l. length l.items) stays.1 ∙ h.counted ∙ sym quiet.sessions;
+          block_a = ap (λ c. c.block) quiet.config ∙ h.block_a;
+          block_b = ap (λ (half : Half). half.node.config.block) stays.0 ∙ h.block_b;
         };
       }
-  side_led party.B stays moment did =
+  side_led party.B stays moment quiet did =
       let led : LeadsTo B (seen_from B w) (AreWorld now after.b before.a) = did B before.a (seen_from B w) (seen_across canonical_reading now before.a.node before.b.node (told_of before.a) (told_of before.b) w h.are) h.moment_b in
       record {
         last = seen_from B led.last;
@@ -163,17 +181,27 @@ module _ (now : ℕ) (before after : Pair) (w : World) (h : IsWorld now before w
           are = seen_across canonical_reading now after.b.node after.a.node (told_of after.b) (told_of after.a) led.last (subst (λ (half : Half). AreWorld now after.b half led.last) (sym stays.0) led.so);
           moment_a = ap (λ (half : Half). half.moment) stays.0 ∙ h.moment_a;
           moment_b = moment ∙ h.moment_b;
-          links = subst AreLinked (sym (ap (λ l. l.items) stays.1)) h.links;
+          links = subst (λ (f : ℕ → List ℕ). AreLinked 1 (taken_in after.a) f after.links.items) (sym quiet.taken)
+              (subst (λ (half : Half). AreLinked 1 (taken_in half) (taken_in before.b) after.links.items) (sym stays.0) (subst (AreLinked 1 (taken_in before.a) (taken_in before.b)) (sym (ap (λ l. l.items) stays.1)) h.links));
+          counted = ap (λ l. length l.items) stays.1 ∙ h.counted ∙ sym (ap (λ (half : Half). length half.node.sessions) stays.0);
+          block_a = ap (λ (half : Half). half.node.config.block) stays.0 ∙ h.block_a;
+          block_b = ap (λ c. c.block) quiet.config ∙ h.block_b;
         };
       }
+
+-- the nodes have their homes alone
+pub record HaveHomesAlone (w : World) : Type 0 where
+  pub a : journal_of w.a ≡ entry.Home (codes "ALPHA") 1 ∷ []
+  pub b : journal_of w.b ≡ entry.Home (codes "BETA") 2 ∷ []
 
 -- from a world at its beginning events lead to one that the pair is
 pub record FromFirst (now : ℕ) (pair : Pair) : Type 0 where
   pub first : World
   pub is_first : IsFirst first
+  pub homes : HaveHomesAlone first
   pub led : LeadsTo A first (IsWorld now pair)
 
--- each node has its home, as journals only grow
+-- each node has its home, as journals only grow, and greets by it
 record HaveHomes (pair : Pair) : Type 0 where
   a : is_empty (entries_of pair.a) ≡ false
   b : is_empty (entries_of pair.b) ≡ false
@@ -186,14 +214,35 @@ not_empty : (entries : List Entry) (e : Entry) → is_empty (entries ++ e ∷ []
 not_empty [] e = refl
 not_empty (f ∷ entries) e = refl
 
-homes_of : {now : ℕ} (pair : Pair) → FromFirst now pair → HaveHomes pair
-homes_of {now = now} pair from =
-    let grown : Extend from.first (after from.first from.led.leads.events) = events_extend from.first [] from.led.leads.events from.is_first from.led.leads.possible in
-    let last : IsWorld now pair (after from.first from.led.leads.events) = subst (IsWorld now pair) (sym from.led.leads.is) from.led.so in
-    record {
-      a = ap is_empty (sym (ap (λ (d : Desk). d.journal) last.are.a.node.desk) ∙ grown.a.is ∙ ap (λ (l : List Entry). grown.a.entries ++ l) from.is_first.a.journal) ∙ not_empty grown.a.entries _;
-      b = ap is_empty (sym (ap (λ (d : Desk). d.journal) last.are.b.node.desk) ∙ grown.b.is ∙ ap (λ (l : List Entry). grown.b.entries ++ l) from.is_first.b.journal) ∙ not_empty grown.b.entries _;
-    }
+module _ (now : ℕ) (pair : Pair) (from : FromFirst now pair) where
+  abbrev last_world : World
+  last_world = after from.first from.led.leads.events
+
+  grown : Extend from.first (after from.first from.led.leads.events)
+  grown = events_extend from.first [] from.led.leads.events from.is_first from.led.leads.possible
+
+  last_is : IsWorld now pair (after from.first from.led.leads.events)
+  last_is = subst (IsWorld now pair) (sym from.led.leads.is) from.led.so
+
+  journal_a : entries_of pair.a ≡ grown.a.entries ++ entry.Home (codes "ALPHA") 1 ∷ []
+  journal_a = sym (ap (λ (d : Desk). d.journal) last_is.are.a.node.desk) ∙ grown.a.is ∙ ap (λ (l : List Entry). grown.a.entries ++ l) from.homes.a
+
+  journal_b : entries_of pair.b ≡ grown.b.entries ++ entry.Home (codes "BETA") 2 ∷ []
+  journal_b = sym (ap (λ (d : Desk). d.journal) last_is.are.b.node.desk) ∙ grown.b.is ∙ ap (λ (l : List Entry). grown.b.entries ++ l) from.homes.b
+
+  homes_of : HaveHomes pair
+  homes_of = record { a = ap is_empty journal_a ∙ not_empty grown.a.entries _; b = ap is_empty journal_b ∙ not_empty grown.b.entries _ }
+
+  are_legal : AreLegal (after from.first from.led.leads.events)
+  are_legal = events_legal from.first from.led.leads.events from.is_first from.led.leads.possible
+
+  greeting_of : AreGreeting pair
+  greeting_of = record {
+    a = hello_frames (codes "ALPHA") 1 pair.a.node.config.block (entries_of pair.a) grown.a.entries last_world.a.node.desk.config.read refl (let low : 1 < 256 ^ 8 = omega arith in low) (let short : length (codes "ALPHA") ≤ 16 = omega arith in short)
+        last_is.block_a journal_a (ap (is_legal last_world.a.node.desk.config.read) (sym (ap (λ (d : Desk). d.journal) last_is.are.a.node.desk)) ∙ are_legal.a);
+    b = hello_frames (codes "BETA") 2 pair.b.node.config.block (entries_of pair.b) grown.b.entries last_world.b.node.desk.config.read refl (let low : 2 < 256 ^ 8 = omega arith in low) (let short : length (codes "BETA") ≤ 16 = omega arith in short)
+        last_is.block_b journal_b (ap (is_legal last_world.b.node.desk.config.read) (sym (ap (λ (d : Desk). d.journal) last_is.are.b.node.desk)) ∙ are_legal.b);
+  }
 
 -- Lines.
 
@@ -202,42 +251,44 @@ then_led w P Q one two =
     let more : LeadsTo A one.last Q = two one.last one.so in
     record { last = more.last; leads = leads_then A w one.last more.last one.leads more.leads; so = more.so }
 
+then_from : (now : ℕ) (before after : Pair) → FromFirst now before → ((v : World) → IsWorld now before v → LeadsTo A v (IsWorld now after)) → FromFirst now after
+then_from now before after from step = record { first = from.first; is_first = from.is_first; homes = from.homes; led = then_led from.first (IsWorld now before) (IsWorld now after) from.led step }
+
 put_line : (now : ℕ) (p : Party) (name bytes : List ℕ) (before after : Course) (w : World) → IsWorld now before.pair w → PutAt p name bytes before after → LeadsTo A w (IsWorld now after.pair)
 put_line now p name bytes before after w h was =
-    side_led now before.pair after.pair w h p was.other was.put.moment (λ x other v are moment. half_put now (half_of p before.pair) (half_of p after.pair) other v x name bytes are was.put)
+    side_led now before.pair after.pair w h p was.other was.put.moment (put_quiet name bytes (half_of p before.pair) (half_of p after.pair) was.put) (λ x other v are moment. half_put now (half_of p before.pair) (half_of p after.pair) other v x name bytes are was.put)
 
 module _ (choice_is : ChoiceIs) (now : ℕ) where
   -- the last pair is joined too
-  record Made (w : World) (last : Pair) : Type 0 where
-    led : LeadsTo A w (IsWorld now last)
+  record Made (last : Pair) : Type 0 where
+    from : FromFirst now last
     joined : AreJoined last
 
-  made_led : (first : Pair) (n : ℕ) (last : Pair) (w : World) (made : MadeTurns first n last) → EachTurn first n last made → AreJoined first → IsWorld now first w → Made w last
-  made_led first n last w none each joined h = record { led = record { last = w; leads = leads_none A w; so = h }; joined = joined }
-  made_led first n last w (more {n = k} {before = before} {after = after} made turned) each joined h =
-      let so_far : Made w before = made_led first k before w made each.0 joined h in
+  made_from : (first : Pair) (n : ℕ) (last : Pair) (made : MadeTurns first n last) → EachTurn first n last made → AreJoined first → FromFirst now first → Made last
+  made_from first n last none each joined from = record { from = from; joined = joined }
+  made_from first n last (more {n = k} {before = before} {after = after} made turned) each joined from =
+      let so_far : Made before = made_from first k before made each.0 joined from in
       record {
-        led = then_led w (IsWorld now before) (IsWorld now after) so_far.led (λ v is. turned_led choice_is now before after v is so_far.joined each.2 turned each.1);
+        from = then_from now before after so_far.from (λ v is. turned_led choice_is now before after v is (greeting_of now before so_far.from) each.2 turned each.1);
         joined = each.2;
       }
 
-  turns_line : (n : ℕ) (before after : Course) (w : World) → IsWorld now before.pair w → AreJoined before.pair → AreJoined after.pair → (took : TookTurns n before after) → EachTurn before.pair took.made took.were.last took.were.turned
-      → LeadsTo A w (IsWorld now after.pair)
-  turns_line n before after w h joined joined_after took each = by_end took.were.ended where
-    made : Made w took.were.last
-    made = made_led before.pair took.made took.were.last w took.were.turned each joined h
+  turns_line : (n : ℕ) (before after : Course) → FromFirst now before.pair → AreJoined before.pair → AreJoined after.pair → (took : TookTurns n before after) → EachTurn before.pair took.made took.were.last took.were.turned → FromFirst now after.pair
+  turns_line n before after from joined joined_after took each = by_end took.were.ended where
+    made : Made took.were.last
+    made = made_from before.pair took.made took.were.last took.were.turned each joined from
 
-    by_end : EndedAt n took.made took.were.last after.pair → LeadsTo A w (IsWorld now after.pair)
-    by_end (inl all) = subst (λ (pair : Pair). LeadsTo A w (IsWorld now pair)) (sym all.1) made.led
-    by_end (inr found) = then_led w (IsWorld now took.were.last) (IsWorld now after.pair) made.led (λ v is. nothing_led choice_is now took.were.last after.pair v is made.joined joined_after found.1)
+    by_end : EndedAt n took.made took.were.last after.pair → FromFirst now after.pair
+    by_end (inl all) = subst (FromFirst now) (sym all.1) made.from
+    by_end (inr found) = then_from now took.were.last after.pair made.from (λ v is. nothing_led choice_is now took.were.last after.pair v is (greeting_of now took.were.last made.from) joined_after found.1)
 
-  line_led : (order : Order) (before after : Course) (w : World) (did : Did order before after) → HaveHomes before.pair → InLine order before after did → IsWorld now before.pair w → AreJoined before.pair → AreJoined after.pair → LeadsTo A w (IsWorld now after.pair)
-  line_led (Text p name bytes) before after w did homes each h joined joined_after = put_line now p name bytes before after w h did
-  line_led (Fill p name n) before after w did homes each h joined joined_after = put_line now p name (filling n) before after w h did
-  line_led (Do p text) before after w did homes each h joined joined_after =
-      side_led now before.pair after.pair w h p did.other (reply_moment text did.reply (half_of p before.pair) (half_of p after.pair) did.done)
-      (λ x other v are moment. reply_led now (half_of p before.pair) (half_of p after.pair) other v x are moment (home_of p before.pair homes) text did.reply did.done)
-  line_led (Turn n) before after w did homes each h joined joined_after = turns_line n before after w h joined joined_after did each
+  line_from : (order : Order) (before after : Course) (did : Did order before after) → InLine order before after did → FromFirst now before.pair → AreJoined before.pair → AreJoined after.pair → FromFirst now after.pair
+  line_from (Text p name bytes) before after did each from joined joined_after = then_from now before.pair after.pair from (λ v is. put_line now p name bytes before after v is did)
+  line_from (Fill p name n) before after did each from joined joined_after = then_from now before.pair after.pair from (λ v is. put_line now p name (filling n) before after v is did)
+  line_from (Do p text) before after did each from joined joined_after = then_from now before.pair after.pair from (λ v is.
+      side_led now before.pair after.pair v is p did.other (reply_moment text did.reply (half_of p before.pair) (half_of p after.pair) did.done) (reply_quiet text did.reply (half_of p before.pair) (half_of p after.pair) did.done)
+      (λ x other u are moment. reply_led now (half_of p before.pair) (half_of p after.pair) other u x are moment (home_of p before.pair (homes_of now before.pair from)) text did.reply did.done))
+  line_from (Turn n) before after did each from joined joined_after = turns_line n before after from joined joined_after did each
 
 -- The whole course.
 
@@ -259,6 +310,7 @@ course_led choice_is priorities orders course (begun {course = first} is) always
     let w : World = world_at_first canonical_reading 1709287200 first.pair.a.node first.pair.b.node (told_of first.pair.a) (told_of first.pair.b) priorities in
     record {
       first = w;
+      homes = record { a = alone_a.journal; b = alone_b.journal };
       is_first = first_world canonical_reading 1709287200 first.pair.a.node first.pair.b.node (told_of first.pair.a) (told_of first.pair.b) priorities (codes "ALPHA") (codes "BETA") 1 2 names_apart (λ same. absurd (omega (arith, same))) alone_a alone_b;
       led = record {
         last = w;
@@ -267,15 +319,12 @@ course_led choice_is priorities orders course (begun {course = first} is) always
           are = begun_world canonical_reading 1709287200 first.pair.a.node first.pair.b.node (told_of first.pair.a) (told_of first.pair.b) priorities (codes "ALPHA") (codes "BETA") 1 2 alone_a alone_b;
           moment_a = new.fresh_a.at;
           moment_b = new.fresh_b.at;
-          links = subst AreLinked (sym new.links) tt;
+          links = subst (AreLinked 1 (taken_in first.pair.a) (taken_in first.pair.b)) (sym new.links) tt;
+          counted = ap length new.links ∙ sym (ap length new.fresh_a.sessions);
+          block_a = new.set_up_a.block;
+          block_b = new.set_up_b.block;
         };
       };
     }
 course_led choice_is priorities orders course (done {order = order} {orders = earlier} {before = before} {after = after} ran did) always =
-    let so_far : FromFirst 1709287200 before.pair = course_led choice_is priorities earlier before ran always.0 in
-    record {
-      first = so_far.first;
-      is_first = so_far.is_first;
-      led = then_led so_far.first (IsWorld 1709287200 before.pair) (IsWorld 1709287200 after.pair) so_far.led
-          (λ v is. line_led choice_is 1709287200 order before after v did (homes_of before.pair so_far) always.1 is (last_joined earlier before ran always.0) always.2);
-    }
+    line_from choice_is 1709287200 order before after did always.1 (course_led choice_is priorities earlier before ran always.0) (last_joined earlier before ran always.0) always.2

@@ -1,36 +1,38 @@
 -- What a node of a drill does, in the world.
-use Rattle.std.proofs.Common.{◌≡◌, ◌⊎◌, inl, inr, ℕ, suc, Bool, true, false, List, [], ◌∷◌, length, ltb, Option, Some, None, refl, sym, ◌∙◌, ap, subst, arith, length-append}
+use Rattle.std.proofs.Common.{◌≡◌, ◌⊎◌, inl, inr, ℕ, suc, ◌+◌, Bool, true, false, eqb, List, [], ◌∷◌, length, ltb, Option, Some, None, refl, sym, ◌∙◌, ap, subst, arith, length-append}
 use Rattle.std.proofs.lemmas.Bool.{lt-ltb, le-ltb}
 use Rattle.cd_types.specs.declared.rows.Row.{Row}
-use Rattle.cd_outside.specs.Lines.{IsFresh}
+use Rattle.cd_outside.specs.Lines.{IsFresh, Traffic}
 use Rattle.cd_outside.specs.declared.sid.Sid.{Sid}
 use Rattle.cd_memory.specs.MemoryFiles as files
 use Rattle.cd_memory.specs.MemoryLines.{last_of, traffic_of, counts_of}
 use Rattle.cd_memory.specs.declared.files.MemoryFiles.{MemoryFiles}
 use Rattle.cd_status.specs.Processes.{own_home}
 use Rattle.cd_status.specs.Queue.{next_due}
-use Rattle.cd_moves.specs.declared.session.Phase.TheVariants.{Fresh}
-use Rattle.cd_moves.specs.Rows.{hello}
+use Rattle.cd_moves.specs.declared.session.Phase.TheVariants.{Gone, Fresh}
+use Rattle.cd_moves.specs.Rows.{hello, row_chosen}
+use Rattle.cd_handling.proofs.Taken.{done_taken}
+use Rattle.cd_parts.specs.Desk.{desk_of}
 use Rattle.cd_node.specs.declared.session.Session.{Session}
 use Rattle.cd_reading.specs.Read.{canonical_reading}
 use Rattle.cd_plain.specs.Choice.{MadeSession, WasConnected, WasLost, WasChosen, TookSession, HadNone}
 use Rattle.cd_plain.specs.Chosen.{busy_in}
 use Rattle.cd_plain.specs.NodeState.{NodeState}
-use Rattle.cd_plain.specs.Turned.{Told, HadTurn, NoTurn}
+use Rattle.cd_plain.specs.Turned.{Told, HadTurn, NoTurn, spot_of}
 use Rattle.cd_plain.specs.declared.handled.Handled.{Handled}
 use Rattle.cd_plain.specs.declared.handled.Handled.TheVariants as handled
-use Rattle.cd_drill.specs.AtRest.{entries_of, told_of, TookTurn, Chose, WasOffered}
-use Rattle.cd_drill.specs.Pairs.{answer_to, CameOf, Accepted}
+use Rattle.cd_drill.specs.AtRest.{entries_of, told_of, IsSame, TookTurn, Chose, WasOffered}
+use Rattle.cd_drill.specs.Pairs.{frame_len, answer_to, CameOf, Accepted}
 use Rattle.cd_drill.specs.declared.half.Half.{Half}
 use Rattle.cd_world.specs.World.{At, World}
-use Rattle.cd_rehearsed.specs.Carried.{TookOnly, HeardAll}
+use Rattle.cd_rehearsed.specs.Brought.{Brought}
 use Rattle.cd_rehearsed.specs.ChoicesLed.{ChoiceIs, same_world, placed_led}
 use Rattle.cd_rehearsed.specs.ConnectedLed.{connected_led}
 use Rattle.cd_rehearsed.specs.Joined.{WroteIn}
 use Rattle.cd_rehearsed.specs.Led.{leads_none}
 use Rattle.cd_rehearsed.specs.Mirrors.{EachFrame, IsWorldOf, LeadsTo}
 use Rattle.cd_rehearsed.specs.Numbered.{AreNumbered, numbered_more, last_number}
-use Rattle.cd_rehearsed.specs.TurnsLed.{turn_led, none_led}
+use Rattle.cd_rehearsed.specs.TurnsLed.{turn_counted, turn_led, none_led, none_came, taken_elsewhere, same_many}
 
 -- two nodes of a drill, at this moment, are this world
 abbrev pub AreWorld : ℕ → Half → Half → World → Type 0
@@ -51,20 +53,71 @@ module _ (now : ℕ) (here at other : Half) (w : World) (h : AreWorld now here o
   came_world [] sid passed now_passed came = subst (λ (half : Half). AreWorld now half other w) (sym came.0) h
   came_world (b ∷ bytes) sid passed now_passed came = offered_world sid _ came.0
 
-pub came_moment : (way : List ℕ) (sid : Sid) (passed now_passed : ℕ) (here at : Half) → CameOf way sid passed here at now_passed → at.moment ≡ here.moment
-came_moment [] sid passed now_passed here at came = ap (λ (half : Half). half.moment) came.0
-came_moment (b ∷ bytes) sid passed now_passed here at came = came.0.moment
+pub came_same : (way : List ℕ) (sid : Sid) (passed now_passed : ℕ) (here at : Half) → CameOf way sid passed here at now_passed → IsSame here at
+came_same [] sid passed now_passed here at came = record { config = ap (λ (half : Half). half.node.config) came.0; moment = ap (λ (half : Half). half.moment) came.0 }
+came_same (b ∷ bytes) sid passed now_passed here at came = record { config = ap (λ (n : NodeState). n.config) came.0.node; moment = came.0.moment }
+
+pub came_sessions : (way : List ℕ) (sid : Sid) (passed now_passed : ℕ) (here at : Half) → CameOf way sid passed here at now_passed → length at.node.sessions ≡ length here.node.sessions
+came_sessions [] sid passed now_passed here at came = ap (λ (half : Half). length half.node.sessions) came.0
+came_sessions (b ∷ bytes) sid passed now_passed here at came = ap (λ (n : NodeState). length n.sessions) came.0.node
+
+-- what the lines of a node took of each session
+abbrev pub taken_in : Half → ℕ → List ℕ
+taken_in half = (traffic_of half.lines).taken
+
+-- what comes isn't taken yet, and is the frame at the front
+pub came_taken : (way : List ℕ) (sid : Sid) (passed now_passed : ℕ) (here at : Half) → CameOf way sid passed here at now_passed → taken_in at ≡ taken_in here
+came_taken [] sid passed now_passed here at came = ap taken_in came.0
+came_taken (b ∷ bytes) sid passed now_passed here at came = ap (λ (t : Traffic). t.taken) came.0.lines.traffic
+
+pub came_passed : (way : List ℕ) (sid : Sid) (passed now_passed : ℕ) (here at : Half) → CameOf way sid passed here at now_passed → now_passed ≡ passed + frame_len way
+came_passed [] sid passed now_passed here at came = omega (arith, came.1)
+came_passed (b ∷ bytes) sid passed now_passed here at came = came.1
 
 -- A session had its turn, about what was on the way to it.
-pub half_turned : (now : ℕ) (here after other : Half) (w : World) (x : At) (way : List ℕ) (sid : Sid) (answer : Handled) → answer ≡ answer_to way sid → AreWorld now here other w → here.moment ≡ now → (t : TookTurn sid answer here after)
-    → HeardAll way sid.number (told_of after) → TookOnly ((told_of after).traffic.taken sid.number) ((told_of other).traffic.given sid.number) → WroteIn sid answer here after t.turned
-    → LeadsTo x w (AreWorld now after other)
-half_turned now here after other w x way sid answer answered h moment t quiet only wrote =
-    subst (λ (m : ℕ). LeadsTo x w (AreWorld m after other)) moment (by_turn t.turned (subst (λ (m : ℕ). AreWorld m here other w) (sym moment) h) wrote)
-  where
-    by_turn : (turned : HadTurn (Unit {0}) (Unit {0}) canonical_reading here.moment sid answer here.node after.node (told_of here) (told_of after) ⊎ NoTurn sid answer here.node after.node (told_of here) (told_of after)) → AreWorld here.moment here other w → WroteIn sid answer here after turned → LeadsTo x w (AreWorld here.moment after other)
-    by_turn (inl had) h2 wrote = turn_led canonical_reading here.moment here.node other.node after.node (told_of here) (told_of after) (told_of other) w x h2 sid answer had t.same.config way answered quiet only wrote
-    by_turn (inr none) h2 wrote = none_led canonical_reading here.moment here.node other.node after.node (told_of here) (told_of after) (told_of other) w x h2 sid answer none
+module _ (now : ℕ) (here after other : Half) (w : World) (x : At) (way : List ℕ) (sid : Sid) (answer : Handled) (answered : answer ≡ answer_to way sid) (h : AreWorld now here other w) (moment : here.moment ≡ now) (t : TookTurn sid answer here after)
+    (passed now_passed : ℕ) (brought : Brought way passed now_passed (taken_in here sid.number) (taken_in after sid.number) ((traffic_of other.lines).given sid.number)) where
+  h_then : AreWorld here.moment here other w
+  h_then = subst (λ (m : ℕ). AreWorld m here other w) (sym moment) h
+
+  abbrev HowTurned : Type 0
+  HowTurned = HadTurn (Unit {0}) (Unit {0}) canonical_reading here.moment sid answer here.node after.node (told_of here) (told_of after) ⊎ NoTurn sid answer here.node after.node (told_of here) (told_of after)
+
+  pub half_turned : WroteIn sid answer here after t.turned → LeadsTo x w (AreWorld now after other)
+  half_turned wrote = subst (λ (m : ℕ). LeadsTo x w (AreWorld m after other)) moment (by_turn t.turned wrote) where
+    by_turn : (turned : HowTurned) → WroteIn sid answer here after turned → LeadsTo x w (AreWorld here.moment after other)
+    by_turn (inl had) wrote = turn_led canonical_reading here.moment here.node other.node after.node (told_of here) (told_of after) (told_of other) w x h_then sid answer had t.same.config way passed now_passed answered brought wrote
+    by_turn (inr none) wrote = none_led canonical_reading here.moment here.node other.node after.node (told_of here) (told_of after) (told_of other) w x h_then sid answer none
+
+  -- so many bytes were taken as came
+  pub half_counted : now_passed ≡ length (taken_in after sid.number)
+  half_counted = by_turn t.turned where
+    by_turn : HowTurned → now_passed ≡ length (taken_in after sid.number)
+    by_turn (inl had) = turn_counted canonical_reading here.moment here.node other.node after.node (told_of here) (told_of after) (told_of other) w x h_then sid answer had t.same.config way passed now_passed brought
+    by_turn (inr none) = none_came canonical_reading here.moment here.node other.node after.node (told_of here) (told_of after) (told_of other) w x h_then sid answer none way passed now_passed answered brought
+
+-- in no other session any were
+pub half_elsewhere : (here after : Half) (sid : Sid) (answer : Handled) (t : TookTurn sid answer here after) (k : ℕ) → eqb sid.number k ≡ false → taken_in after k ≡ taken_in here k
+half_elsewhere here after sid answer t k apart = taken_elsewhere canonical_reading here.moment here.node after.node (told_of here) (told_of after) sid answer t.turned k apart
+
+pub half_sessions : (here after : Half) (sid : Sid) (answer : Handled) (t : TookTurn sid answer here after) → length after.node.sessions ≡ length here.node.sessions
+half_sessions here after sid answer t = same_many canonical_reading here.moment here.node after.node (told_of here) (told_of after) sid answer t.turned
+
+-- a choice takes nothing of a session
+pub chose_taken : (answer : Handled) (here after : Half) → ((sid : Sid) → answer ≡ handled.Lost sid → ⊥) → Chose answer here after → taken_in after ≡ taken_in here
+chose_taken answer here after stays chose = by_due (next_due (entries_of here) here.moment (busy_in here.node.sessions)) refl where
+  by_chosen : (row : Row) → WasChosen (Unit {0}) (Unit {0}) canonical_reading here.moment row answer here.node after.node (told_of here) (told_of after) → taken_in after ≡ taken_in here
+  by_chosen row (inl began) = by_began began.began where
+    by_began : WasConnected (Unit {0}) (Unit {0}) canonical_reading here.moment row answer here.node after.node (told_of here) (told_of after) began.sid
+        ⊎ WasLost (Unit {0}) (Unit {0}) canonical_reading here.moment row answer here.node after.node (told_of here) (told_of after) began.sid → taken_in after ≡ taken_in here
+    by_began (inl c) = done_taken (Unit {0}) (Unit {0}) began.sid.number (row_chosen (desk_of canonical_reading here.node.config (entries_of here)) here.moment true (Some row)) (spot_of here.node Gone (told_of here)) (spot_of after.node c.phase (told_of after)) c.done tt
+    by_began (inr lost) = absurd (stays began.sid lost.answered)
+  by_chosen row (inr (inl held)) = ap (λ (d : Told). d.traffic.taken) held.untouched
+  by_chosen row (inr (inr failed)) = ap (λ (t : Traffic). t.taken) (failed.traffic tt)
+
+  by_due : (found : Option Row) → next_due (entries_of here) here.moment (busy_in here.node.sessions) ≡ found → taken_in after ≡ taken_in here
+  by_due None is = ap taken_in (chose.idle (chose.none is)).1
+  by_due (Some row) is = by_chosen row (chose.chosen row is)
 
 -- FollowedBy of a pair says so of the links too; here of the other node alone
 abbrev pub Follows : Half → Half → Bool → Type 0
@@ -79,13 +132,17 @@ takes_there : (other other_after : Half) (more : Bool) → more ≡ true → Fol
 takes_there other other_after true is follows = follows
 takes_there other other_after false is follows = absurd cc
 
+-- the newest session of each node has the number of all its sessions, where there is one more
+abbrev pub AreCounted : Bool → Half → Half → Type 0
+AreCounted true here other = (last_of here.lines ≡ length here.node.sessions) × (last_of other.lines ≡ length other.node.sessions)
+AreCounted false here other = Unit {0}
+
 -- A choice, and what the other node did about it.
 module _ (choice_is : ChoiceIs) (now : ℕ) (here after other other_after : Half) (w : World) (x : At) (h : AreWorld now here other w) where
   -- what is asked of both nodes before and behind it
   pub record CanChoose : Type 0 where
     pub moment : here.moment ≡ now
-    pub counted : last_of after.lines ≡ length after.node.sessions
-    pub counted_there : last_of other_after.lines ≡ length other_after.node.sessions
+    pub counted : AreCounted (ltb (length here.node.sessions) (length after.node.sessions)) after other_after
     pub greets : EachFrame (hello (own_home (entries_of here)) here.node.config.block)
 
   abbrev Led : Type 0
@@ -114,11 +171,14 @@ module _ (choice_is : ChoiceIs) (now : ℕ) (here after other other_after : Half
         more : ltb (length here.node.sessions) (length after.node.sessions) ≡ true
         more = lt-ltb (length here.node.sessions) (length after.node.sessions) (omega (arith, longer))
 
+        counted : AreCounted true after other_after
+        counted = subst (λ (b : Bool). AreCounted b after other_after) more can.counted
+
         numbered : AreNumbered 1 after.node.sessions
         numbered = by_made chose.made where
           by_made : MadeSession (last_of here.lines) (last_of after.lines) here.node after.node → AreNumbered 1 after.node.sessions
           by_made (inl one) = subst (AreNumbered 1) (sym one.opened.sessions)
-              (numbered_more 1 here.node.sessions (record { sid = record { number = last_of after.lines }; phase = one.opened.phase }) h.a.numbered (omega (arith, can.counted, longer)))
+              (numbered_more 1 here.node.sessions (record { sid = record { number = last_of after.lines }; phase = one.opened.phase }) h.a.numbered (omega (arith, counted.0, longer)))
           by_made (inr none) = absurd (omega (arith, ap (λ (l : List Session). length l) none.sessions, longer))
 
         number : sid.number ≡ w.sessions
@@ -127,7 +187,7 @@ module _ (choice_is : ChoiceIs) (now : ℕ) (here after other other_after : Half
         -- the session is one that the lines made in this call
         fresh_here : MadeSession (last_of here.lines) (last_of after.lines) here.node after.node → IsFresh w.sessions (traffic_of here.lines)
         fresh_here (inl one) =
-            let last : last_of after.lines ≡ w.sessions = omega (arith, can.counted, longer, h.sessions) in
+            let last : last_of after.lines ≡ w.sessions = omega (arith, counted.0, longer, h.sessions) in
             subst (λ (n : ℕ). IsFresh n (traffic_of here.lines)) last (chose.unused one.newer)
         fresh_here (inr none) = absurd (omega (arith, ap (λ (l : List Session). length l) none.sessions, longer))
 
@@ -135,7 +195,7 @@ module _ (choice_is : ChoiceIs) (now : ℕ) (here after other other_after : Half
         by_taken took = by_answer took.took.accepted where
           last_there : TookSession handled.Went (last_of other.lines) (last_of other_after.lines) (counts_of other.lines) (counts_of other_after.lines) other.node other_after.node → last_of other_after.lines ≡ w.sessions
           last_there session =
-              omega (arith, can.counted_there, ap (λ (l : List Session). length l) session.sessions, length-append other.node.sessions ((record { sid = record { number = last_of other_after.lines }; phase = Fresh }) ∷ []), h.sessions, h.count)
+              omega (arith, counted.1, ap (λ (l : List Session). length l) session.sessions, length-append other.node.sessions ((record { sid = record { number = last_of other_after.lines }; phase = Fresh }) ∷ []), h.sessions, h.count)
 
           by_answer : TookSession handled.Went (last_of other.lines) (last_of other_after.lines) (counts_of other.lines) (counts_of other_after.lines) other.node other_after.node
               ⊎ HadNone handled.Went (last_of other.lines) (last_of other_after.lines) (counts_of other.lines) (counts_of other_after.lines) other.node other_after.node → Led

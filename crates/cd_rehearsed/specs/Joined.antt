@@ -3,30 +3,24 @@ use Rattle.std.specs.Prelude.{◌≡◌, ◌⊎◌, ℕ, List, length, true}
 use Rattle.std.proofs.Common.{inl, inr}
 use Rattle.cd_outside.specs.declared.sid.Sid.{Sid}
 use Rattle.cd_script.specs.Script.{Order, Text, Fill, Do, Turn}
-use Rattle.cd_status.specs.Processes.{own_home}
 use Rattle.cd_memory.specs.MemoryLines.{last_of}
-use Rattle.cd_moves.specs.Rows.{hello}
 use Rattle.cd_reading.specs.Read.{canonical_reading}
 use Rattle.cd_handling.specs.Setting.{setting_of}
 use Rattle.cd_plain.specs.Turned.{HadTurn, NoTurn, others_at, spot_of}
 use Rattle.cd_plain.specs.declared.handled.Handled.{Handled}
-use Rattle.cd_drill.specs.AtRest.{entries_of, told_of}
+use Rattle.cd_drill.specs.AtRest.{told_of}
 use Rattle.cd_drill.specs.Course.{MadeTurns, none, more, Did, Ran, begun, done}
-use Rattle.cd_drill.specs.Pairs.{on_way, Turned, HandledIn}
+use Rattle.cd_drill.specs.Pairs.{Turned, HandledIn}
 use Rattle.cd_drill.specs.declared.course.Course.{Course}
 use Rattle.cd_drill.specs.declared.half.Half.{Half}
 use Rattle.cd_drill.specs.declared.pair.Link.{Link}
 use Rattle.cd_drill.specs.declared.pair.Pair.{Pair}
-use Rattle.cd_rehearsed.specs.Carried.{HeardAll, WrittenBy}
-use Rattle.cd_rehearsed.specs.Mirrors.{EachFrame}
+use Rattle.cd_rehearsed.specs.Carried.{WrittenBy}
 
--- The lines of each node number its sessions one by one: the newest one's number is that of all. The Hello that a node says is a frame in
--- its form.
+-- The lines of each node number its sessions one by one: the newest one's number is that of all.
 pub record AreJoined (pair : Pair) : Type 0 where
   pub counted_a : last_of pair.a.lines ≡ length pair.a.node.sessions
   pub counted_b : last_of pair.b.lines ≡ length pair.b.node.sessions
-  pub greets_a : EachFrame (hello (own_home (entries_of pair.a)) pair.a.node.config.block)
-  pub greets_b : EachFrame (hello (own_home (entries_of pair.b)) pair.b.node.config.block)
 
 -- The frames that were sent in a turn are in their form.
 abbrev pub WroteIn : (sid : Sid) (answer : Handled) (before after : Half)
@@ -36,10 +30,10 @@ WroteIn sid answer before after (inl t) =
     (spot_of before.node t.session.phase (told_of before)) (spot_of after.node t.phase (told_of after)) sid.number t.turn
 WroteIn sid answer before after (inr t) = Unit {0}
 
--- So it was in a turn, and where nothing was on the way no call on the session failed.
+-- So it was in a turn at B, or at A.
 abbrev pub WroteAt : (at : ℕ) (link : Link) (before after : Pair) → HandledIn at link true before after → Type 0
-WroteAt at link before after (inl b) = HeardAll (on_way before.a link.at_a link.of_a) link.at_b.number (told_of after.b) × WroteIn link.at_b b.was.answer b.was.at after.b b.was.turned.turned
-WroteAt at link before after (inr a) = HeardAll (on_way before.b link.at_b link.of_b) link.at_a.number (told_of after.a) × WroteIn link.at_a a.was.answer a.was.at after.a a.was.turned.turned
+WroteAt at link before after (inl b) = WroteIn link.at_b b.was.answer b.was.at after.b b.was.turned.turned
+WroteAt at link before after (inr a) = WroteIn link.at_a a.was.answer a.was.at after.a a.was.turned.turned
 
 abbrev pub Wrote : (before after : Pair) → Turned before after → Type 0
 Wrote before after (inl one) = WroteAt one.at one.link before after one.handled

@@ -19,10 +19,11 @@ EachFrame [] = Unit {0}
 EachFrame (m ∷ frames) = IsFrame m × EachFrame frames
 
 -- What a node heard in a session, and what is on the way to it, are, joined, the bytes that the other node gave. All of that are frames
--- in their form. An end waits behind them only where the other node closed the session.
+-- in their form, and it took no byte that it didn't hear. An end waits behind them only where the other node closed the session.
 pub record Spoken (other : NodeState) (number : ℕ) (reader : streams.Reading) (taken given : List ℕ) (way : List Message) (ended : Bool) : Type 0 where
   pub heard : List Message
   pub run : Run taken heard reader
+  pub all_heard : taken ≡ joined heard
   pub bytes : given ≡ joined (heard ++ way)
   pub each : EachFrame way
   pub ends : ended ≡ true → is_gone (phase_among other.sessions number) ≡ true

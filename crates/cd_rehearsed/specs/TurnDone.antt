@@ -58,6 +58,7 @@ pub spoken_same : (other other2 : NodeState) (number : ℕ) (reader : streams.Re
 spoken_same other other2 number reader taken taken2 given given2 way way2 ended ended2 t g y e p s = record {
   heard = s.heard;
   run = subst (λ (bytes : List ℕ). Run bytes s.heard reader) (sym t) s.run;
+  all_heard = t ∙ s.all_heard;
   bytes = g ∙ s.bytes ∙ ap (λ (l : List Message). joined (s.heard ++ l)) (sym y);
   each = subst EachFrame (sym y) s.each;
   ends = λ is. ap is_gone p ∙ s.ends (sym e ∙ is);
@@ -215,6 +216,7 @@ module _ (read : Reading) (now : ℕ) (here other after : NodeState) (told told_
             subst (λ (n : ℕ). Spoken after n r2 (told_other.traffic.taken n) (told_after.traffic.given n) (w2.b.way n) (w2.b.ends n)) n_is (record {
               heard = before.heard;
               run = before.run;
+              all_heard = before.all_heard;
               bytes = given ∙ ap (λ (bytes : List ℕ). bytes ++ joined (sends deeds)) before.bytes
                   ∙ sym (flat_map-append frame_bytes (before.heard ++ v.b.way sid) (sends deeds))
                   ∙ ap joined (append_assoc before.heard (v.b.way sid) (sends deeds) ∙ ap (λ (l : List Message). before.heard ++ l) (sym way.way));

@@ -1,5 +1,5 @@
 -- A turn of a session, in the world: the next frame on the way is handled; or nothing arrives of what is on the way, and its end is.
-use Rattle.std.proofs.Common.{◌≡◌, ℕ, zero, suc, Bool, true, false, cond, ◌&&◌, eqb, List, [], ◌∷◌, ◌++◌, length, take, drop, Option, Some, None, refl, sym, ◌∙◌, ap, subst, append_assoc, arith, length-append}
+use Rattle.std.proofs.Common.{◌≡◌, ℕ, zero, suc, Bool, true, false, cond, ◌&&◌, eqb, List, [], ◌∷◌, ◌++◌, length, take, drop, Option, Some, None, refl, sym, ◌∙◌, ap, subst, append_assoc, arith, length-append, take-append-drop}
 use Rattle.std.specs.Prelude.{slice_get, slice_set}
 use Rattle.std.proofs.Math.Seq.{get_or-append_seam}
 use Rattle.std.proofs.lemmas.Bool.{cond-true, cond-false, eq-eqb, ne_eqb}
@@ -37,6 +37,7 @@ use Rattle.cd_handling.specs.Turn.{heard_at, WasHeard}
 use Rattle.cd_plain.specs.Turned.{Told, in_phase, others_at, spot_of}
 use Rattle.cd_world.specs.World as worlds
 use Rattle.cd_world.specs.World.{At, Half, World, is_gone, at_session, world_does, world_after, world_lost, Frame, End, Task, nothing, task_of, task, came, ended, answers_now, ToldFor, AllTold}
+use Rattle.cd_rehearsed.specs.Brought.{Brought, way_is, taken_front, all_counted}
 use Rattle.cd_rehearsed.specs.Led.{does_leads, loses_leads, leads_then}
 use Rattle.cd_rehearsed.specs.Mirrors.{EachFrame, Spoken, IsWorldOf, LeadsTo}
 use Rattle.cd_rehearsed.specs.Numbered.{numbered_at, phase_at, phase_with}
@@ -48,6 +49,9 @@ use Rattle.cd_rehearsed.specs.TurnDone.{gave_taken, spoken_same, IsReadyFor, Was
 front_cut : (xs ys zs : List ℕ) → xs ++ ys ≡ xs ++ zs → ys ≡ zs
 front_cut xs ys zs same = sym (drop_at xs ys (length xs) refl) ∙ ap (drop (length xs)) same ∙ drop_at xs zs (length xs) refl
 
+joined_one : (heard : List Message) (m : Message) → joined (heard ++ m ∷ []) ≡ joined heard ++ frame_bytes m
+joined_one heard m = flat_map-append frame_bytes heard (m ∷ []) ∙ ap (λ (l : List ℕ). joined heard ++ l) (append-nil (frame_bytes m))
+
 -- what a reader gives of a stream that begins what was given is the next of the frames
 pub next_is : (taken given later : List ℕ) (heard way : List Message) (m : Message) (reader : streams.Reading)
     → Run taken (heard ++ m ∷ []) reader → given ≡ joined (heard ++ way) → given ≡ taken ++ later → EachFrame way → (more : List Message) × (way ≡ m ∷ more)
@@ -58,7 +62,7 @@ next_is taken given later heard way m reader run bytes fed each = by_way way eac
   same : joined way ≡ frame_bytes m ++ (reader.rest ++ later)
   same =
       let stands = run_stands run in
-      let one : joined (heard ++ m ∷ []) ≡ joined heard ++ frame_bytes m = flat_map-append frame_bytes heard (m ∷ []) ∙ ap (λ (l : List ℕ). joined heard ++ l) (append-nil (frame_bytes m)) in
+      let one : joined (heard ++ m ∷ []) ≡ joined heard ++ frame_bytes m = joined_one heard m in
       let all : joined heard ++ joined way ≡ joined heard ++ (frame_bytes m ++ (reader.rest ++ later)) =
       sym (flat_map-append frame_bytes heard way) ∙ sym bytes ∙ fed ∙ ap (λ (l : List ℕ). l ++ later) (stands.whole ∙ ap (λ (l : List ℕ). l ++ reader.rest) one)
       ∙ append_assoc (joined heard ++ frame_bytes m) reader.rest later ∙ append_assoc (joined heard) (frame_bytes m) (reader.rest ++ later) in
@@ -182,10 +186,44 @@ module _ (read : Reading) (now : ℕ) (here other after : NodeState) (told told_
         let second = numbered_at 1 here.sessions at2 s h.a.numbered is in
         ne_eqb n s.sid.number (λ same. let never : true ≡ false = sym (eq-eqb at at2 (omega (arith, first, second, same))) ∙ apart in absurd cc)
 
+    -- what the other node gave is what was taken, and the frames on the way
+    begins : told_other.traffic.given n ≡ told.traffic.taken n ++ joined (w.a.way n)
+    begins = spoken.bytes ∙ flat_map-append frame_bytes spoken.heard (w.a.way n) ∙ ap (λ (l : List ℕ). l ++ joined (w.a.way n)) (sym spoken.all_heard)
+
+    -- so many bytes were taken as came
+    pub taken_counted : (way : List ℕ) (passed now_passed : ℕ) → Brought way passed now_passed (told.traffic.taken n) (told_after.traffic.taken n) (told_other.traffic.given n) → now_passed ≡ length (told_after.traffic.taken n)
+    taken_counted way passed now_passed brought = all_counted way passed now_passed (told.traffic.taken n) (told_after.traffic.taken n) (told_other.traffic.given n) brought (joined (w.a.way n)) begins
+
+    -- a frame came, and was taken whole
+    module _ (frame : Message) (heard : Traffic) (came_so : WasHeard (Unit {0}) n (Some frame) (spot_of here session.phase told) heard reader_before reader)
+        (taken_is : told_after.traffic.taken ≡ heard.taken)
+        (way : List ℕ) (passed now_passed : ℕ) (brought : Brought way passed now_passed (told.traffic.taken n) (told_after.traffic.taken n) (told_other.traffic.given n)) where
+      run_on : Run (told_after.traffic.taken n) (spoken.heard ++ frame ∷ []) reader
+      run_on = subst (λ (taken : ℕ → List ℕ). Run (taken n) (spoken.heard ++ frame ∷ []) reader) (sym taken_is) (came_so.next tt spoken.heard spoken.run)
+
+      fed : told_other.traffic.given n ≡ told_after.traffic.taken n ++ drop now_passed (told_other.traffic.given n)
+      fed = sym (take-append-drop now_passed (told_other.traffic.given n)) ∙ ap (λ (l : List ℕ). l ++ drop now_passed (told_other.traffic.given n)) (sym brought.all_taken)
+
+      next_found : (more : List Message) × (w.a.way n ≡ frame ∷ more)
+      next_found = next_is (told_after.traffic.taken n) (told_other.traffic.given n) (drop now_passed (told_other.traffic.given n)) spoken.heard (w.a.way n) frame reader run_on spoken.bytes fed spoken.each
+
+      -- it stood at the front of what was on the way
+      at_front : way ≡ frame_bytes frame ++ joined next_found.0
+      at_front = way_is way passed now_passed (told.traffic.taken n) (told_after.traffic.taken n) (told_other.traffic.given n) brought (joined (w.a.way n)) begins ∙ ap joined next_found.1
+
+      pub some_came : way ≡ [] → ⊥
+      some_came none = absurd (omega (arith, ap length (sym none ∙ at_front), length-append (frame_bytes frame) (joined next_found.0), frame_long frame))
+
+      frame_heard : told_after.traffic.taken n ≡ joined (spoken.heard ++ frame ∷ [])
+      frame_heard =
+          taken_front way passed now_passed (told.traffic.taken n) (told_after.traffic.taken n) (told_other.traffic.given n) brought (joined (w.a.way n)) begins frame (joined next_found.0)
+          (subst EachFrame next_found.1 spoken.each).0 at_front
+          ∙ ap (λ (l : List ℕ). l ++ frame_bytes frame) spoken.all_heard ∙ sym (joined_one spoken.heard frame)
+
     -- the next frame was handled, and its row was done
     module _ (frame : Message) (heard : Traffic) (came_so : WasHeard (Unit {0}) n (Some frame) (spot_of here session.phase told) heard reader_before reader)
         (done : AllDone (the_case (Unit {0}) (Unit {0}) (setting_of here.config) read n now (others_at at session here.sessions) frame) (heard_at heard (spot_of here session.phase told)) (spot_of after phase told_after))
-        (later : List ℕ) (fed : told_other.traffic.given n ≡ told_after.traffic.taken n ++ later)
+        (way : List ℕ) (passed now_passed : ℕ) (brought : Brought way passed now_passed (told.traffic.taken n) (told_after.traffic.taken n) (told_other.traffic.given n))
         (written : (node : Node) → IsOf (the_case (Unit {0}) (Unit {0}) (setting_of here.config) read n now (others_at at session here.sessions) frame) node (heard_at heard (spot_of here session.phase told)) → EachFrame (sends (row node n done.answers frame))) where
       deeds : List Deed
       deeds = row w.a.node n done.answers frame
@@ -193,14 +231,11 @@ module _ (read : Reading) (now : ℕ) (here other after : NodeState) (told told_
       done_here : WereDone (Unit {0}) (Unit {0}) n (row w.a.node n done.answers frame) (heard_at heard (spot_of here session.phase told)) (spot_of after phase told_after)
       done_here = done.done w.a.node (stands_at heard)
 
-      taken_is : told_after.traffic.taken ≡ heard.taken
-      taken_is = ap (λ (t : Traffic). t.taken) (done_here.traffic tt) ∙ gave_taken n (sends (row w.a.node n done.answers frame)) heard
-
-      run_on : Run (told_after.traffic.taken n) (spoken.heard ++ frame ∷ []) reader
-      run_on = subst (λ (taken : ℕ → List ℕ). Run (taken n) (spoken.heard ++ frame ∷ []) reader) (sym taken_is) (came_so.next tt spoken.heard spoken.run)
+      taken_then : told_after.traffic.taken ≡ heard.taken
+      taken_then = ap (λ (t : Traffic). t.taken) (done_here.traffic tt) ∙ gave_taken n (sends (row w.a.node n done.answers frame)) heard
 
       abbrev found : (more : List Message) × (w.a.way n ≡ frame ∷ more)
-      found = next_is (told_after.traffic.taken n) (told_other.traffic.given n) later spoken.heard (w.a.way n) frame reader run_on spoken.bytes fed spoken.each
+      found = next_found frame heard came_so taken_then way passed now_passed brought
 
       abbrev more : List Message
       more = found.0
@@ -226,11 +261,12 @@ module _ (read : Reading) (now : ℕ) (here other after : NodeState) (told told_
         world_sessions = h.sessions;
         others = λ at2 s r apart is open_s reads.
             let elsewhere : eqb n s.sid.number ≡ false = apart_from at2 s apart is in
-            let taken : told_after.traffic.taken s.sid.number ≡ told.traffic.taken s.sid.number = ap (λ (t : ℕ → List ℕ). t s.sid.number) taken_is ∙ (came_so.heard_only tt).others s.sid.number elsewhere in
+            let taken : told_after.traffic.taken s.sid.number ≡ told.traffic.taken s.sid.number = ap (λ (t : ℕ → List ℕ). t s.sid.number) taken_then ∙ (came_so.heard_only tt).others s.sid.number elsewhere in
             spoken_same other other s.sid.number r _ _ _ _ _ _ _ _ taken refl (cond-false (eqb n s.sid.number) more (w.a.way s.sid.number) elsewhere) refl refl (h.a.spoken at2 s r is open_s reads);
         own = λ stays. record {
           heard = spoken.heard ++ frame ∷ [];
-          run = run_on;
+          run = run_on frame heard came_so taken_then way passed now_passed brought;
+          all_heard = frame_heard frame heard came_so taken_then way passed now_passed brought;
           bytes = spoken.bytes ∙ ap (λ (l : List Message). joined (spoken.heard ++ l)) found.1 ∙ ap joined (sym (append_assoc spoken.heard (frame ∷ []) more))
               ∙ ap (λ (l : List Message). joined ((spoken.heard ++ frame ∷ []) ++ l)) (sym way_is);
           each = subst EachFrame (sym way_is) (subst EachFrame found.1 spoken.each).1;

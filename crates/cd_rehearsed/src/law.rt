@@ -11,8 +11,8 @@ ghost use Rattle.cd_rehearsed.specs.Rehearsed.{IsRehearsed};
 use cd_plain::law_of_choice;
 use cd_reading::law_of_readings;
 
-/// The orders of a script were done, one after another, by two nodes. Their lines numbered their sessions one by one, each frame that was
-/// sent was in its form, and where a session ended no call on it failed.
+/// The orders of a script were done, one after another, by two nodes. Their lines numbered their sessions one by one, and each frame that
+/// was sent in a turn was in its form.
 ///
 /// Then there are a world at its beginning and events that lead to one with the same two journals and the same files. So
 /// all that is promised of worlds holds of it: both journals are legal, each step whose outcome the other node keeps ended as
