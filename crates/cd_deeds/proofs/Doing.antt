@@ -16,9 +16,10 @@ use Rattle.cd_moves.specs.declared.session.Phase.{Phase}
 use Rattle.cd_deeds.specs.Calls.{touched, FilesDid, FilesTorn, ShelfTorn, IsBeforeOrAfter}
 use Rattle.cd_deeds.specs.Joint.{NodeImage, JointAt, StandsFor, IsWithin}
 use Rattle.cd_deeds.specs.Registry.{RegistryState, IsRegistry}
-use Rattle.cd_deeds.specs.Stands.{holder_of, Spot, Stands, gave, kept, phased, held, given, IsKeptOrNot, WereDone, TrafficTorn, IsFaultOf, IsNoTouch}
+use Rattle.cd_deeds.specs.Stands.{holder_of, Spot, Stands, gave, kept, phased, held, given, IsKeptOrNot, HasFrames, WereDone, TrafficTorn, IsFaultOf, IsNoTouch}
 use Rattle.cd_deeds.specs.declared.fault.Fault.TheVariants as fault
 use Rattle.cd_deeds.specs.declared.holders.Holding.{Holding}
+use Rattle.cd_deeds.proofs.Frames.{frames_one}
 use Rattle.cd_deeds.proofs.Joint.{Both, joint_disk, joint_files, joint_none}
 use Rattle.cd_deeds.proofs.Recording.{rests_image}
 
@@ -79,10 +80,11 @@ given_one sid (Begin key next) traffic = refl
 given_one sid (Go next frames) traffic = ap (λ (ms : List Message). gave sid ms traffic) (sym (append-nil frames))
 
 pub done_one : (files_told lines_told : Type 0) (sid : ℕ) (deed : Deed) (before after : Spot) → after.entries ≡ kept deed before.entries → (files_told → after.shelf ≡ touched deed before.shelf)
-    → after.phase ≡ phased deed before.phase → after.holdings ≡ held sid deed before.holdings → (lines_told → after.traffic ≡ given sid deed before.traffic) → WereDone files_told lines_told sid (deed ∷ []) before after
-done_one files_told lines_told sid deed before after entries shelf phase holdings traffic = record {
+    → after.phase ≡ phased deed before.phase → after.holdings ≡ held sid deed before.holdings → (lines_told → after.traffic ≡ given sid deed before.traffic) → HasFrames deed → WereDone files_told lines_told sid (deed ∷ []) before after
+done_one files_told lines_told sid deed before after entries shelf phase holdings traffic frames = record {
   node = λ node is. stands_did files_told sid deed node before after is entries shelf phase holdings;
   traffic = λ told. traffic told ∙ given_one sid deed before.traffic;
+  frames = frames_one deed frames;
 }
 
 -- the files after a call

@@ -1,4 +1,5 @@
 mod Doing
+pub mod Frames
 mod Joint
 mod Ready
 mod Recording

@@ -13,8 +13,9 @@ use Rattle.cd_moves.specs.Node.{Node, Deed, Keep, Touch, AskSize, AskBytes, Begi
 use Rattle.cd_moves.specs.Seen.{seen_deed}
 use Rattle.cd_moves.specs.declared.deed.Deed as told
 use Rattle.cd_deeds.specs.Joint.{NodeImage, StandsFor, IsWithin}
-use Rattle.cd_deeds.specs.Stands.{Spot, Stands, gave, kept, WereDone, WereCut, WasTorn, IsFaultOf, IsReady, AreReady}
+use Rattle.cd_deeds.specs.Stands.{Spot, Stands, gave, kept, AreFrames, WereDone, WereCut, WasTorn, IsFaultOf, IsReady, AreReady}
 use Rattle.cd_deeds.specs.declared.fault.Fault.{Fault}
+use Rattle.cd_deeds.proofs.Frames.{frames_both}
 use Rattle.cd_deeds.proofs.Sending.{split_at}
 
 does_then : (sid : ℕ) (first second : List Deed) (node : Node) → does sid (first ++ second) node ≡ does sid second (does sid first node)
@@ -36,13 +37,14 @@ gave_then sid (m ∷ first) second traffic = gave_then sid first second (sent si
 
 -- nothing was done
 pub done_none : (files_told lines_told : Type 0) (sid : ℕ) (at : Spot) → WereDone files_told lines_told sid [] at at
-done_none files_told lines_told sid at = record { node = λ node is. is; traffic = λ told. refl }
+done_none files_told lines_told sid at = record { node = λ node is. is; traffic = λ told. refl; frames = tt }
 
 -- deeds, and then others
 pub done_then : (files_told lines_told : Type 0) (sid : ℕ) (first second : List Deed) (a b c : Spot) → WereDone files_told lines_told sid first a b → WereDone files_told lines_told sid second b c → WereDone files_told lines_told sid (first ++ second) a c
 done_then files_told lines_told sid first second a b c one two = record {
   node = λ node is. subst (λ (n : Node). Stands files_told sid n c) (sym (does_then sid first second node)) (two.node (does sid first node) (one.node node is));
   traffic = λ told. two.traffic told ∙ ap (gave sid (sends second)) (one.traffic told) ∙ sym (gave_then sid (sends first) (sends second) a.traffic) ∙ ap (λ (ms : List Message). gave sid ms a.traffic) (sym (sends_then first second));
+  frames = subst AreFrames (sym (sends_then first second)) (frames_both (sends first) (sends second) one.frames two.frames);
 }
 
 -- the entries after deeds

@@ -12,7 +12,7 @@ use Rattle.cd_entries.specs.declared.entry.Entry.{Entry}
 use Rattle.cd_entries.specs.declared.entry.Entry.TheVariants as entry
 use Rattle.cd_entries.specs.Entry as an_entry
 use Rattle.cd_entries.specs.Entry.{entry_bytes}
-use Rattle.cd_frames.specs.Frame.{frame_bytes, IsWritable}
+use Rattle.cd_frames.specs.Frame.{frame_bytes, IsFrame, IsWritable}
 use Rattle.cd_frames.specs.Message as message
 use Rattle.cd_frames.specs.Message.{Message}
 use Rattle.cd_legal.specs.Legal.{allowed}
@@ -78,11 +78,22 @@ given sid _ traffic = traffic
 abbrev pub IsKeptOrNot : Deed → List Entry → List ℕ → Type 0
 IsKeptOrNot deed entries bytes = StandsFor bytes entries ⊎ StandsFor bytes (kept deed entries)
 
+-- each of these is a frame in its form: its bytes tell it
+abbrev pub AreFrames : List Message → Type 0
+AreFrames [] = Unit {0}
+AreFrames (m ∷ frames) = IsFrame m × AreFrames frames
+
+-- so is each that a deed sends
+abbrev pub HasFrames : Deed → Type 0
+HasFrames (Go phase frames) = AreFrames frames
+HasFrames _ = Unit {0}
+
 -- The deeds were done: each node that stood so is by the rules one that stands so now, and the session was given the frames
--- that they send.
+-- that they send, each of which is in its form.
 pub record WereDone (files_told lines_told : Type 0) (sid : ℕ) (deeds : List Deed) (before after : Spot) : Type 0 where
   pub node : (node : Node) → Stands files_told sid node before → Stands files_told sid (does sid deeds node) after
   pub traffic : lines_told → after.traffic ≡ gave sid (sends deeds) before.traffic
+  pub frames : AreFrames (sends deeds)
 
 -- some of the frames were given, and a front of the next one
 pub record GaveSome (sid : ℕ) (frames : List Message) (before after : Traffic) : Type 0 where

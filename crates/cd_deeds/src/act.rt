@@ -7,7 +7,7 @@ ghost use Rattle.cd_outside.specs.Moments.{Moments};
 ghost use Rattle.cd_journal.specs.Journal.{length_of};
 ghost use Rattle.cd_moves.specs.Seen.{seen_deed};
 ghost use Rattle.cd_deeds.specs.Registry.{IsRegistry};
-ghost use Rattle.cd_deeds.specs.Stands.{kept, phased, held, given, TrafficTorn, IsFaultOf, IsReady, IsKeptOrNot, IsNoTouch};
+ghost use Rattle.cd_deeds.specs.Stands.{kept, phased, held, given, HasFrames, TrafficTorn, IsFaultOf, IsReady, IsKeptOrNot, IsNoTouch};
 
 use crate::session::{begin, go};
 use crate::{Fault, Holders, Registry};
@@ -44,6 +44,7 @@ pub(crate) fn act<T: Texts, D: Disk, L: Lines>(
     ensures phase { OnOk result (phase.new ≡ phased (seen_deed deed.entry) phase.old) }
     ensures holders { OnOk result (holders.new ≡ held sid.number (seen_deed deed.entry) holders.old) }
     ensures given { L.told → OnOk result (L.traffic lines.new ≡ given sid.number (seen_deed deed.entry) (L.traffic lines.old)) }
+    ensures frames { OnOk result (HasFrames (seen_deed deed.entry)) }
 
     ensures same { OnErr result ((registry.new.entries ≡ registry.old.entries) × (phase.new ≡ phase.old) × (holders.new ≡ holders.old)) }
     ensures torn { L.told → OnErr result (TrafficTorn sid.number (seen_deed deed.entry) (L.traffic lines.old) (L.traffic lines.new)) }

@@ -2,10 +2,10 @@
 ghost use Rattle.std.specs.Prelude.{◌≡◌, ◌≤◌, ◌<◌, ◌∷◌, length, map, Err, OnOk, OnErr, IfErr};
 ghost use Rattle.cd_outside.specs.Counts.{Rose};
 ghost use Rattle.cd_outside.specs.Lines.{sent, GaveFront, NeverFell};
-ghost use Rattle.cd_frames.specs.Frame.{frame_bytes, IsWritable};
+ghost use Rattle.cd_frames.specs.Frame.{frame_bytes, IsFrame, IsWritable};
 ghost use Rattle.cd_moves.specs.Seen.{seen_frame};
 ghost use Rattle.cd_types.specs.NodeName.{IsNodeName};
-ghost use Rattle.cd_deeds.specs.Stands.{gave, GaveSome, IsFaultOfSending, IsFaultOfGiving, AreSendable, HasNames};
+ghost use Rattle.cd_deeds.specs.Stands.{gave, GaveSome, IsFaultOfSending, IsFaultOfGiving, AreFrames, AreSendable, HasNames};
 
 use crate::{Fault, Holders, Holding};
 use cd_frames::write_frame;
@@ -47,6 +47,7 @@ fn send<L: Lines>(alloc: Global, lines: &mut L, sid: Sid, frame: &Outgoing<'_>) 
     requires to { sid.number ≤ L.last lines.old }
     requires ready { IsWritable (seen_frame frame.now) }
     ensures sent { L.told → OnOk result (L.traffic lines.new ≡ sent sid.number (frame_bytes (seen_frame frame.now)) (L.traffic lines.old)) }
+    ensures form { OnOk result (IsFrame (seen_frame frame.now)) }
     ensures front { L.told → OnErr result (GaveFront sid.number (frame_bytes (seen_frame frame.now)) (L.traffic lines.old) (L.traffic lines.new)) }
     ensures fault { IfErr result IsFaultOfSending }
     ensures last { L.last lines.new ≡ L.last lines.old }
@@ -77,6 +78,7 @@ fn send_all<L: Lines>(
     requires to { sid.number ≤ L.last lines.old }
     requires ready { AreSendable (map seen_frame frames.now) }
     ensures sent { L.told → OnOk result (L.traffic lines.new ≡ gave sid.number (map seen_frame frames.now) (L.traffic lines.old)) }
+    ensures form { OnOk result (AreFrames (map seen_frame frames.now)) }
     ensures some { L.told → OnErr result (GaveSome sid.number (map seen_frame frames.now) (L.traffic lines.old) (L.traffic lines.new)) }
     ensures fault { IfErr result (λ fault. IsFaultOfGiving (map seen_frame frames.now) fault) }
     ensures last { L.last lines.new ≡ L.last lines.old }
@@ -108,6 +110,7 @@ pub(crate) fn go<L: Lines>(
     ensures phase { OnOk result (phase.new ≡ next) }
     ensures same { OnErr result (phase.new ≡ phase.old) }
     ensures sent { L.told → OnOk result (L.traffic lines.new ≡ gave sid.number (map seen_frame frames.now) (L.traffic lines.old)) }
+    ensures form { OnOk result (AreFrames (map seen_frame frames.now)) }
     ensures some { L.told → OnErr result (GaveSome sid.number (map seen_frame frames.now) (L.traffic lines.old) (L.traffic lines.new)) }
     ensures fault { IfErr result (λ fault. IsFaultOfGiving (map seen_frame frames.now) fault) }
     ensures last { L.last lines.new ≡ L.last lines.old }

@@ -1,5 +1,5 @@
 -- Two nodes, and what is on the way between them.
-use Rattle.std.specs.Prelude.{◌≡◌, ◌⊎◌, ℕ, ◌+◌, List, [], ◌∷◌, ◌++◌, length, min, take, drop, Bool, true, false, not, ◌&&◌, ◌||◌, ◌==◌, nat_lt, slice_get, slice_set, Option, Some, None, if◌then◌else◌}
+use Rattle.std.specs.Prelude.{◌≡◌, ◌⊎◌, ℕ, ◌+◌, ◌-◌, List, [], ◌∷◌, ◌++◌, length, min, take, drop, Bool, true, false, not, ◌&&◌, ◌||◌, ◌==◌, nat_lt, slice_get, slice_set, Option, Some, IfSome, if◌then◌else◌}
 use Rattle.std.specs.Int.{from_be_bytes, w32}
 use Rattle.std.specs.List.{list_all}
 use Rattle.cd_outside.specs.declared.sid.Sid.{Sid}
@@ -154,14 +154,29 @@ FollowedBy false other other_after new links links_after = (other_after ≡ othe
 abbrev pub has_more : Half → Half → Bool
 has_more before after = nat_lt (length before.node.sessions) (length after.node.sessions)
 
--- A node chose.
+-- the last of these sessions
+abbrev pub last_in : List Session → Option Session
+last_in sessions = slice_get sessions (length sessions - 1)
+
+-- it has the number of all, where there is one
+abbrev pub CountsAll : List Session → Type 0
+CountsAll sessions = IfSome (last_in sessions) (λ last. last.sid.number ≡ length sessions)
+
+-- so it is at both nodes, where one has one session more
+abbrev pub AreCounted : Bool → Half → Half → Type 0
+AreCounted true a b = CountsAll a.node.sessions × CountsAll b.node.sessions
+AreCounted false a b = Unit {0}
+
+-- A node chose. Where it has one session more, the newest session of each node has the number of all of them.
 pub record ChoseAtA (answer : Handled) (before after : Pair) : Type 0 where
   pub chose : Chose answer before.a after.a
   pub followed : FollowedBy (has_more before.a after.a) before.b after.b (newest after.a after.b) before.links.items after.links.items
+  pub counted : AreCounted (has_more before.a after.a) after.a after.b
 
 pub record ChoseAtB (answer : Handled) (before after : Pair) : Type 0 where
   pub chose : Chose answer before.b after.b
   pub followed : FollowedBy (has_more before.b after.b) before.a after.a (newest after.a after.b) before.links.items after.links.items
+  pub counted : AreCounted (has_more before.b after.b) after.a after.b
 
 -- A had something to choose; or it had nothing, and B had.
 pub record ChoseThere (before after : Pair) : Type 0 where

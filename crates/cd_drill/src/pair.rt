@@ -3,8 +3,8 @@ ghost use Rattle.std.specs.Prelude.{◌≡◌, ◌<◌, ◌≤◌, ◌++◌, ◌
 ghost use Rattle.cd_memory.specs.MemoryLines.{traffic_of};
 ghost use Rattle.cd_drill.specs.AtRest.{IsAtRest, Chose};
 ghost use Rattle.cd_drill.specs.declared.pair.Link.{Link};
-ghost use Rattle.cd_drill.specs.Linking.{choice_answer, link_of, last_in, last_link};
-ghost use Rattle.cd_drill.specs.Pairs.{AreAtRest, frame_len, is_open_in, is_open, on_way, waits, CameOf, answer_to, WasBrought, HandledIn, HandledBelow, Accepted, ChoseAtA, ChoseAtB, ChoseOne, TurnOf, IsNew};
+ghost use Rattle.cd_drill.specs.Linking.{choice_answer, link_of, last_link};
+ghost use Rattle.cd_drill.specs.Pairs.{AreAtRest, frame_len, is_open_in, is_open, on_way, waits, CameOf, answer_to, WasBrought, HandledIn, HandledBelow, Accepted, last_in, CountsAll, ChoseAtA, ChoseAtB, ChoseOne, TurnOf, IsNew};
 
 use crate::half::Half;
 use cd_deeds::Fault;
@@ -117,6 +117,16 @@ fn link_of(at_a: &[Session], at_b: &[Session]) -> Option<Link>
             of_b: 0,
         }),
         _ => None,
+    }
+}
+
+/// Whether the last of these sessions, where there is one, has the number of all.
+fn counts_all(sessions: &[Session]) -> bool
+    ensures { result ≡ true → CountsAll sessions.now }
+{
+    match sessions.last() {
+        Some(last) => last.sid.number == sessions.len() as u64,
+        None => true,
     }
 }
 
@@ -270,14 +280,21 @@ impl Pair {
         Ok(false)
     }
 
-    /// The newest session of each node is one session of both.
+    /// The newest session of each node is one session of both. Where it hasn't the number of all at its node, memory ran out for a device.
     fn link(&mut self) -> Result<(), Fault>
         requires { AreAtRest self.old }
         ensures rest { OnOk result (AreAtRest self.new) }
         ensures linked { OnOk result (self.new.links.items ≡ self.old.links.items ++ last_link self.old.a self.old.b) }
+        ensures counted { OnOk result (CountsAll self.old.a.node.sessions × CountsAll self.old.b.node.sessions) }
         ensures a { self.new.a ≡ self.old.a }
         ensures b { self.new.b ≡ self.old.b }
     {
+        if !counts_all(self.a.sessions()) {
+            return Err(Fault::NoMemory);
+        }
+        if !counts_all(self.b.sessions()) {
+            return Err(Fault::NoMemory);
+        }
         match link_of(self.a.sessions(), self.b.sessions()) {
             Some(link) => match self.links.push(link) {
                 Ok(()) => Ok(()),

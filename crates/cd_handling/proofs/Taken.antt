@@ -66,6 +66,7 @@ module _ (files_told lines_told : Type 0) (sid : ℕ) where
   done_then deeds before after then_told same done = record {
     node = λ node is. let now = done.node node is in record { journal = now.journal; shelf = now.shelf; phase = now.phase; holder = now.holder };
     traffic = λ told. same told ∙ done.traffic told;
+    frames = done.frames;
   }
 
 -- a node that stands so, with these other sessions

@@ -42,7 +42,7 @@ trouble_may setting read priorities now entries phase legal early = trouble_fits
 
 -- none of them was done
 pub none_stopped : (files_told lines_told : Type 0) (sid : ℕ) (deeds : List Deed) (fault : Fault) (at : Spot) → IsFaultOfAsking fault → WereStopped files_told lines_told sid deeds fault at at
-none_stopped files_told lines_told sid deeds fault at cause = inl (record { done = []; more = deeds; parts = refl; first = record { node = λ node is. is; traffic = λ told. refl }; cause = cause })
+none_stopped files_told lines_told sid deeds fault at cause = inl (record { done = []; more = deeds; parts = refl; first = record { node = λ node is. is; traffic = λ told. refl; frames = tt }; cause = cause })
 
 -- Which faults may come in them.
 

@@ -72,5 +72,5 @@ pub frame_left : (files_told lines_told : Type 0) (setting : Setting) (read : Re
 frame_left files_told lines_told setting read sid now others m answers fault at moment cause = record {
   answers = answers;
   moment = moment;
-  stopped = λ node is. inl (record { done = []; more = row node sid answers m; parts = refl; first = record { node = λ n so. so; traffic = λ t. refl }; cause = cause });
+  stopped = λ node is. inl (record { done = []; more = row node sid answers m; parts = refl; first = record { node = λ n so. so; traffic = λ t. refl; frames = tt }; cause = cause });
 }

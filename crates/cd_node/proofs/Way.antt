@@ -13,9 +13,10 @@ use Rattle.cd_moves.specs.declared.session.Then.TheVariants.{Done, Next, Undo, P
 use Rattle.cd_moves.specs.Node.{Config, Desk, Node, Deed, Keep, Touch, AskSize, AskBytes, Begin, Go, Part, Answers, did, does, sends}
 use Rattle.cd_moves.specs.Rows.{checked, part_behind, asked, is_done, all_parts}
 use Rattle.cd_moves.specs.RowsLaw.{same_config}
-use Rattle.cd_deeds.specs.Stands.{Spot, spot, Stands, gave, WereDone, WereCut, IsFaultOfAsking}
+use Rattle.cd_deeds.specs.Stands.{Spot, spot, Stands, gave, AreFrames, WereDone, WereCut, IsFaultOfAsking}
 use Rattle.cd_deeds.specs.declared.fault.Fault.{Fault}
 use Rattle.cd_deeds.specs.declared.holders.Holding.{Holding}
+use Rattle.cd_deeds.proofs.Frames.{frames_both}
 use Rattle.cd_node.specs.Going.{Unless, AreTold, IsSo, IsOnItsWay, WereStopped, RowStopped}
 use Rattle.cd_node.specs.Question.{Setting, config_with, desk_with, Question, question_of, IsAnswered, IsTold, part_at}
 use Rattle.cd_node.specs.Rest.{part_after, rest, rank, rank_behind, Agrees}
@@ -39,13 +40,14 @@ gave_then sid [] second traffic = refl
 gave_then sid (m ∷ first) second traffic = gave_then sid first second (sent sid (frame_bytes m) traffic)
 
 done_none : (files_told lines_told : Type 0) (sid : ℕ) (at : Spot) → WereDone files_told lines_told sid [] at at
-done_none files_told lines_told sid at = record { node = λ node is. is; traffic = λ told. refl }
+done_none files_told lines_told sid at = record { node = λ node is. is; traffic = λ told. refl; frames = tt }
 
 -- deeds, and then others
 pub done_then : (files_told lines_told : Type 0) (sid : ℕ) (first second : List Deed) (a b c : Spot) → WereDone files_told lines_told sid first a b → WereDone files_told lines_told sid second b c → WereDone files_told lines_told sid (first ++ second) a c
 done_then files_told lines_told sid first second a b c one two = record {
   node = λ node is. subst (λ (n : Node). Stands files_told sid n c) (sym (does_then sid first second node)) (two.node (does sid first node) (one.node node is));
   traffic = λ told. two.traffic told ∙ ap (gave sid (sends second)) (one.traffic told) ∙ sym (gave_then sid (sends first) (sends second) a.traffic) ∙ ap (λ (ms : List Message). gave sid ms a.traffic) (sym (sends_then first second));
+  frames = subst AreFrames (sym (sends_then first second)) (frames_both (sends first) (sends second) one.frames two.frames);
 }
 
 -- questions change nothing
@@ -59,13 +61,13 @@ asked_does sid desk (Onto role talk key a) deeds node = refl
 asked_does sid desk (Piece role talk key source offset) deeds node = refl
 
 asked_done : (files_told lines_told : Type 0) (sid : ℕ) (desk : Desk) (then_what : Then) (at : Spot) → WereDone files_told lines_told sid (asked desk then_what) at at
-asked_done files_told lines_told sid desk Done at = record { node = λ node is. is; traffic = λ told. refl }
-asked_done files_told lines_told sid desk (Next talk n) at = record { node = λ node is. is; traffic = λ told. refl }
-asked_done files_told lines_told sid desk (Undo role talk key why) at = record { node = λ node is. is; traffic = λ told. refl }
-asked_done files_told lines_told sid desk (Push talk key) at = record { node = λ node is. is; traffic = λ told. refl }
-asked_done files_told lines_told sid desk (Offered talk key name interval) at = record { node = λ node is. is; traffic = λ told. refl }
-asked_done files_told lines_told sid desk (Onto role talk key a) at = record { node = λ node is. is; traffic = λ told. refl }
-asked_done files_told lines_told sid desk (Piece role talk key source offset) at = record { node = λ node is. is; traffic = λ told. refl }
+asked_done files_told lines_told sid desk Done at = record { node = λ node is. is; traffic = λ told. refl; frames = tt }
+asked_done files_told lines_told sid desk (Next talk n) at = record { node = λ node is. is; traffic = λ told. refl; frames = tt }
+asked_done files_told lines_told sid desk (Undo role talk key why) at = record { node = λ node is. is; traffic = λ told. refl; frames = tt }
+asked_done files_told lines_told sid desk (Push talk key) at = record { node = λ node is. is; traffic = λ told. refl; frames = tt }
+asked_done files_told lines_told sid desk (Offered talk key name interval) at = record { node = λ node is. is; traffic = λ told. refl; frames = tt }
+asked_done files_told lines_told sid desk (Onto role talk key a) at = record { node = λ node is. is; traffic = λ told. refl; frames = tt }
+asked_done files_told lines_told sid desk (Piece role talk key source offset) at = record { node = λ node is. is; traffic = λ told. refl; frames = tt }
 
 -- Answers that agree.
 
@@ -317,6 +319,7 @@ pub nothing_done : (files_told lines_told : Type 0) (sid : ℕ) (entries : List 
 nothing_done files_told lines_told sid entries shelf now phase holdings traffic same = record {
   node = λ node is. record { journal = is.journal; shelf = λ t. is.shelf t ∙ sym (same t); phase = is.phase; holder = is.holder };
   traffic = λ told. refl;
+  frames = tt;
 }
 
 -- deeds were done, and then others were cut off

@@ -165,6 +165,7 @@ pub retold : (files_told lines_told : Type 0) (sid : ℕ) (deeds : List Deed) (e
 retold files_told lines_told sid deeds entries shelf phase holdings before then_told after same done = record {
   node = λ node is. done.node node (record { journal = is.journal; shelf = is.shelf; phase = is.phase; holder = is.holder });
   traffic = λ told. done.traffic told ∙ ap (gave sid (sends deeds)) (same told);
+  frames = done.frames;
 }
 
 pub recut : (files_told lines_told : Type 0) (sid : ℕ) (deeds : List Deed) (why : Fault) (entries : List Entry) (shelf : Shelf) (phase : Phase) (holdings : List Holding) (before then_told : Traffic) (after : Spot) → (lines_told → then_told ≡ before)

@@ -17,7 +17,7 @@ use Rattle.cd_legal.specs.Steps.{Reading}
 use Rattle.cd_moves.specs.declared.session.Phase.TheVariants.{Gone, Greet, Fresh}
 use Rattle.cd_moves.specs.Node.{Desk, Node, Deed, Go, did, does}
 use Rattle.cd_moves.specs.Rows.{opened, hello, call, row_chosen}
-use Rattle.cd_deeds.specs.Stands.{Stands, WereDone, gave, holder_of}
+use Rattle.cd_deeds.specs.Stands.{Stands, AreFrames, WereDone, gave, holder_of}
 use Rattle.cd_deeds.specs.declared.holders.Holding.{Holding}
 use Rattle.cd_node.specs.Sessions.{phase_among}
 use Rattle.cd_node.specs.declared.session.Session.{Session}
@@ -31,7 +31,7 @@ use Rattle.cd_plain.specs.declared.handled.Handled.{Handled}
 use Rattle.cd_world.specs.World.{At, B, across, Half, World, seen_from, at_session, behind_them, with_session, called, chosen, nothing, Choice, Call, Task, task_of, world_did, world_does, world_after}
 use Rattle.cd_rehearsed.specs.ChoicesLed.{ChoiceIs, choice_task}
 use Rattle.cd_rehearsed.specs.Led.{leads_then, leads_there, does_leads}
-use Rattle.cd_rehearsed.specs.Mirrors.{EachFrame, Spoken, AllSpoken, IsWorldOf, Leads, LeadsTo}
+use Rattle.cd_rehearsed.specs.Mirrors.{Spoken, AllSpoken, IsWorldOf, Leads, LeadsTo}
 use Rattle.cd_rehearsed.specs.Numbered.{AreNumbered, numbered_at, numbered_more, phase_past, phase_more, get_past, get_within, get_low}
 use Rattle.cd_rehearsed.specs.TurnDone.{gave_taken, gave_elsewhere, gave_here, spoken_same, desk_is}
 
@@ -87,7 +87,7 @@ module _ (read : Reading) (here after : NodeState) (s : Session) (frames : List 
             by_reader (inr found) = found.1
 
 -- nothing of a session is on the way to one that read nothing of it
-unread_spoken : (other : NodeState) (number : ℕ) (reader : streams.Reading) (taken given : List ℕ) (way : List Message) (ended : Bool) → IsUnread reader → taken ≡ [] → given ≡ joined way → EachFrame way → ended ≡ false
+unread_spoken : (other : NodeState) (number : ℕ) (reader : streams.Reading) (taken given : List ℕ) (way : List Message) (ended : Bool) → IsUnread reader → taken ≡ [] → given ≡ joined way → AreFrames way → ended ≡ false
     → Spoken other number reader taken given way ended
 unread_spoken other number reader taken given way ended unread none bytes each waits = record {
   heard = [];
@@ -125,7 +125,6 @@ module _ (choice_is : ChoiceIs) (read : Reading) (now : ℕ) (here other after o
     pub number_there : last ≡ w.sessions
     pub unused : IsFresh w.sessions told.traffic
     pub unused_there : IsFresh w.sessions told_other.traffic
-    pub written : EachFrame (hello (own_home here.registry.entries) here.config.block)
 
   module _ (b : BeganAtBoth) where
     abbrev frames : List Message
@@ -160,6 +159,9 @@ module _ (choice_is : ChoiceIs) (read : Reading) (now : ℕ) (here other after o
 
     done : WereDone (Unit {0}) (Unit {0}) sid.number (Go (Greet row.number) frames ∷ []) (spot_of here Gone told) (spot_of after b.connected.phase told_after)
     done = subst (λ (deeds : List Deed). WereDone (Unit {0}) (Unit {0}) sid.number deeds (spot_of here Gone told) (spot_of after b.connected.phase told_after)) row_is b.connected.done
+
+    written : AreFrames frames
+    written = subst AreFrames (append-nil frames) done.frames
 
     stood : Stands (Unit {0}) sid.number w.a.node (spot_of here Gone told)
     stood = record {
@@ -226,7 +228,7 @@ module _ (choice_is : ChoiceIs) (read : Reading) (now : ℕ) (here other after o
               phase_same read other other_after new_there [] h.b.numbered next_there sessions_there m apart,
             ))
             (unread_spoken other_after w.sessions b.connected.readings.reader (told_after.traffic.taken w.sessions) (told_other_after.traffic.given w.sessions) (both.a.way w.sessions) (both.a.ends w.sessions) b.connected.readings.unread
-            (ap (λ (t : ℕ → List ℕ). t w.sessions) taken_is ∙ b.unused.taken) given_here (subst EachFrame (sym way_a) tt) (at_here w.sessions false w.a.ends))
+            (ap (λ (t : ℕ → List ℕ). t w.sessions) taken_is ∙ b.unused.taken) given_here (subst AreFrames (sym way_a) tt) (at_here w.sessions false w.a.ends))
             h.a.spoken;
       };
       b = record {
@@ -246,7 +248,7 @@ module _ (choice_is : ChoiceIs) (read : Reading) (now : ℕ) (here other after o
               phase_same read here after new_here frames h.a.numbered next_here sessions_here m apart,
             ))
             (unread_spoken after w.sessions b.took.readings.reader (told_other_after.traffic.taken w.sessions) (told_after.traffic.given w.sessions) (both.b.way w.sessions) (both.b.ends w.sessions) b.took.readings.unread
-            (ap (λ (t : Traffic). t.taken w.sessions) b.traffic_there ∙ b.unused_there.taken) given_there (subst EachFrame (sym way_b) b.written) (at_here w.sessions false w.b.ends))
+            (ap (λ (t : Traffic). t.taken w.sessions) b.traffic_there ∙ b.unused_there.taken) given_there (subst AreFrames (sym way_b) written) (at_here w.sessions false w.b.ends))
             h.b.spoken;
       };
       clock = h.clock;

@@ -1,5 +1,5 @@
 -- A whole course of a drill, in the world.
-use Rattle.std.proofs.Common.{◌≡◌, inl, inr, ℕ, ◌+◌, ◌^◌, ◌<◌, ◌≤◌, leb, Bool, true, false, cond, ◌&&◌, List, [], ◌∷◌, ◌++◌, length, Option, None, refl, sym, ◌∙◌, ap, subst, arith}
+use Rattle.std.proofs.Common.{◌≡◌, inl, inr, ℕ, ◌+◌, leb, Bool, true, false, cond, ◌&&◌, List, [], ◌∷◌, ◌++◌, length, None, refl, sym, ◌∙◌, ap, subst, arith}
 use Rattle.std.specs.Prelude.{codes, Result, Ok, Err}
 use Rattle.std.specs.List.{list_all}
 use Rattle.std.specs.Str.{bytes_eq}
@@ -12,7 +12,7 @@ use Rattle.cd_entries.specs.declared.entry.Entry.{Entry}
 use Rattle.cd_entries.specs.declared.entry.Entry.TheVariants as entry
 use Rattle.cd_status.specs.Processes.{submitted, live_numbers}
 use Rattle.cd_filing.specs.Filing.{filed}
-use Rattle.cd_legal.specs.Legal.{is_empty, is_legal}
+use Rattle.cd_legal.specs.Legal.{is_empty}
 use Rattle.cd_legal.specs.Promises.{HavePriorities}
 use Rattle.cd_memory.specs.MemoryFiles as files
 use Rattle.cd_memory.specs.MemoryLines.{traffic_of}
@@ -40,19 +40,17 @@ use Rattle.cd_drill.specs.Commanded.{OnlyRecords, WasDone, IsReplyTo}
 use Rattle.cd_drill.specs.declared.course.Course.{Course}
 use Rattle.cd_drill.specs.declared.half.Half.{Half}
 use Rattle.cd_drill.specs.declared.pair.Pair.{Pair}
-use Rattle.cd_world.specs.GrownLaw.{events_extend, events_legal}
-use Rattle.cd_world.specs.Holds.{journal_of, AreLegal, Extend}
+use Rattle.cd_world.specs.GrownLaw.{events_extend}
+use Rattle.cd_world.specs.Holds.{journal_of, Extend}
 use Rattle.cd_world.specs.World.{At, A, B, World, seen_from, IsFirst, after}
 use Rattle.cd_rehearsed.specs.BegunLed.{HasHomeAlone, world_at_first, first_world, begun_world}
-use Rattle.cd_rehearsed.specs.ChoicesLed.{ChoiceIs, same_world}
-use Rattle.cd_rehearsed.specs.Greeted.{hello_frames}
+use Rattle.cd_rehearsed.specs.ChoicesLed.{ChoiceIs}
 use Rattle.cd_rehearsed.specs.HalvesLed.{AreWorld, taken_in}
 use Rattle.cd_rehearsed.specs.Linked.{AreLinked}
-use Rattle.cd_rehearsed.specs.Joined.{AreJoined, EachTurn, InLine, AlwaysJoined}
 use Rattle.cd_rehearsed.specs.Led.{leads_none, leads_then, leads_across, seen_across}
 use Rattle.cd_rehearsed.specs.Mirrors.{IsWorldOf, LeadsTo}
 use Rattle.cd_rehearsed.specs.OthersLed.{put_led, submit_led}
-use Rattle.cd_rehearsed.specs.PairsLed.{IsWorld, AreGreeting, turned_led, nothing_led}
+use Rattle.cd_rehearsed.specs.PairsLed.{IsWorld, turned_led, nothing_led}
 
 -- A file that is put at a node.
 half_put : (now : ℕ) (here after other : Half) (w : World) (x : At) (name bytes : List ℕ) → AreWorld now here other w → WasPut name bytes here after → LeadsTo x w (AreWorld now after other)
@@ -143,14 +141,13 @@ reply_moment text answer here after (inr r) = ap (λ (half : Half). half.moment)
 pub record IsQuiet (before after : Half) : Type 0 where
   pub taken : taken_in after ≡ taken_in before
   pub sessions : length after.node.sessions ≡ length before.node.sessions
-  pub config : after.node.config ≡ before.node.config
 
 put_quiet : (name bytes : List ℕ) (before after : Half) → WasPut name bytes before after → IsQuiet before after
-put_quiet name bytes before after was = record { taken = ap (λ (l : MemoryLines). (traffic_of l).taken) was.lines; sessions = ap (λ (n : NodeState). length n.sessions) was.node; config = ap (λ (n : NodeState). n.config) was.node }
+put_quiet name bytes before after was = record { taken = ap (λ (l : MemoryLines). (traffic_of l).taken) was.lines; sessions = ap (λ (n : NodeState). length n.sessions) was.node }
 
 reply_quiet : (text : List ℕ) (answer : Reply) (before after : Half) → IsReplyTo text answer before after → IsQuiet before after
-reply_quiet text answer before after (inl d) = record { taken = ap (λ (l : MemoryLines). (traffic_of l).taken) d.done.only.lines; sessions = ap length d.done.only.sessions.sessions; config = d.done.only.same.config }
-reply_quiet text answer before after (inr r) = record { taken = ap taken_in r.same; sessions = ap (λ (half : Half). length half.node.sessions) r.same; config = ap (λ (half : Half). half.node.config) r.same }
+reply_quiet text answer before after (inl d) = record { taken = ap (λ (l : MemoryLines). (traffic_of l).taken) d.done.only.lines; sessions = ap length d.done.only.sessions.sessions }
+reply_quiet text answer before after (inr r) = record { taken = ap taken_in r.same; sessions = ap (λ (half : Half). length half.node.sessions) r.same }
 
 -- what a node did, while the other one stayed
 module _ (now : ℕ) (before after : Pair) (w : World) (h : IsWorld now before w) where
@@ -168,8 +165,6 @@ module _ (now : ℕ) (before after : Pair) (w : World) (h : IsWorld now before w
           links = subst (λ (f : ℕ → List ℕ). AreLinked 1 f (taken_in after.b) after.links.items) (sym quiet.taken)
               (subst (λ (half : Half). AreLinked 1 (taken_in before.a) (taken_in half) after.links.items) (sym stays.0) (subst (AreLinked 1 (taken_in before.a) (taken_in before.b)) (sym (ap (λ l. l.items) stays.1)) h.links));
           counted = ap (λ l. length l.items) stays.1 ∙ h.counted ∙ sym quiet.sessions;
-          block_a = ap (λ c. c.block) quiet.config ∙ h.block_a;
-          block_b = ap (λ (half : Half). half.node.config.block) stays.0 ∙ h.block_b;
         };
       }
   side_led party.B stays moment quiet did =
@@ -184,8 +179,6 @@ module _ (now : ℕ) (before after : Pair) (w : World) (h : IsWorld now before w
           links = subst (λ (f : ℕ → List ℕ). AreLinked 1 (taken_in after.a) f after.links.items) (sym quiet.taken)
               (subst (λ (half : Half). AreLinked 1 (taken_in half) (taken_in before.b) after.links.items) (sym stays.0) (subst (AreLinked 1 (taken_in before.a) (taken_in before.b)) (sym (ap (λ l. l.items) stays.1)) h.links));
           counted = ap (λ l. length l.items) stays.1 ∙ h.counted ∙ sym (ap (λ (half : Half). length half.node.sessions) stays.0);
-          block_a = ap (λ (half : Half). half.node.config.block) stays.0 ∙ h.block_a;
-          block_b = ap (λ c. c.block) quiet.config ∙ h.block_b;
         };
       }
 
@@ -201,7 +194,7 @@ pub record FromFirst (now : ℕ) (pair : Pair) : Type 0 where
   pub homes : HaveHomesAlone first
   pub led : LeadsTo A first (IsWorld now pair)
 
--- each node has its home, as journals only grow, and greets by it
+-- each node has its home, as journals only grow
 record HaveHomes (pair : Pair) : Type 0 where
   a : is_empty (entries_of pair.a) ≡ false
   b : is_empty (entries_of pair.b) ≡ false
@@ -215,9 +208,6 @@ not_empty [] e = refl
 not_empty (f ∷ entries) e = refl
 
 module _ (now : ℕ) (pair : Pair) (from : FromFirst now pair) where
-  abbrev last_world : World
-  last_world = after from.first from.led.leads.events
-
   grown : Extend from.first (after from.first from.led.leads.events)
   grown = events_extend from.first [] from.led.leads.events from.is_first from.led.leads.possible
 
@@ -232,17 +222,6 @@ module _ (now : ℕ) (pair : Pair) (from : FromFirst now pair) where
 
   homes_of : HaveHomes pair
   homes_of = record { a = ap is_empty journal_a ∙ not_empty grown.a.entries _; b = ap is_empty journal_b ∙ not_empty grown.b.entries _ }
-
-  are_legal : AreLegal (after from.first from.led.leads.events)
-  are_legal = events_legal from.first from.led.leads.events from.is_first from.led.leads.possible
-
-  greeting_of : AreGreeting pair
-  greeting_of = record {
-    a = hello_frames (codes "ALPHA") 1 pair.a.node.config.block (entries_of pair.a) grown.a.entries last_world.a.node.desk.config.read refl (let low : 1 < 256 ^ 8 = omega arith in low) (let short : length (codes "ALPHA") ≤ 16 = omega arith in short)
-        last_is.block_a journal_a (ap (is_legal last_world.a.node.desk.config.read) (sym (ap (λ (d : Desk). d.journal) last_is.are.a.node.desk)) ∙ are_legal.a);
-    b = hello_frames (codes "BETA") 2 pair.b.node.config.block (entries_of pair.b) grown.b.entries last_world.b.node.desk.config.read refl (let low : 2 < 256 ^ 8 = omega arith in low) (let short : length (codes "BETA") ≤ 16 = omega arith in short)
-        last_is.block_b journal_b (ap (is_legal last_world.b.node.desk.config.read) (sym (ap (λ (d : Desk). d.journal) last_is.are.b.node.desk)) ∙ are_legal.b);
-  }
 
 -- Lines.
 
@@ -259,42 +238,29 @@ put_line now p name bytes before after w h was =
     side_led now before.pair after.pair w h p was.other was.put.moment (put_quiet name bytes (half_of p before.pair) (half_of p after.pair) was.put) (λ x other v are moment. half_put now (half_of p before.pair) (half_of p after.pair) other v x name bytes are was.put)
 
 module _ (choice_is : ChoiceIs) (now : ℕ) where
-  -- the last pair is joined too
-  record Made (last : Pair) : Type 0 where
-    from : FromFirst now last
-    joined : AreJoined last
+  made_from : (first : Pair) (n : ℕ) (last : Pair) → MadeTurns first n last → FromFirst now first → FromFirst now last
+  made_from first n last none from = from
+  made_from first n last (more {n = k} {before = before} {after = after} made turned) from =
+      then_from now before after (made_from first k before made from) (λ v is. turned_led choice_is now before after v is turned)
 
-  made_from : (first : Pair) (n : ℕ) (last : Pair) (made : MadeTurns first n last) → EachTurn first n last made → AreJoined first → FromFirst now first → Made last
-  made_from first n last none each joined from = record { from = from; joined = joined }
-  made_from first n last (more {n = k} {before = before} {after = after} made turned) each joined from =
-      let so_far : Made before = made_from first k before made each.0 joined from in
-      record {
-        from = then_from now before after so_far.from (λ v is. turned_led choice_is now before after v is (greeting_of now before so_far.from) each.2 turned each.1);
-        joined = each.2;
-      }
-
-  turns_line : (n : ℕ) (before after : Course) → FromFirst now before.pair → AreJoined before.pair → AreJoined after.pair → (took : TookTurns n before after) → EachTurn before.pair took.made took.were.last took.were.turned → FromFirst now after.pair
-  turns_line n before after from joined joined_after took each = by_end took.were.ended where
-    made : Made took.were.last
-    made = made_from before.pair took.made took.were.last took.were.turned each joined from
+  turns_line : (n : ℕ) (before after : Course) → FromFirst now before.pair → TookTurns n before after → FromFirst now after.pair
+  turns_line n before after from took = by_end took.were.ended where
+    made : FromFirst now took.were.last
+    made = made_from before.pair took.made took.were.last took.were.turned from
 
     by_end : EndedAt n took.made took.were.last after.pair → FromFirst now after.pair
-    by_end (inl all) = subst (FromFirst now) (sym all.1) made.from
-    by_end (inr found) = then_from now took.were.last after.pair made.from (λ v is. nothing_led choice_is now took.were.last after.pair v is (greeting_of now took.were.last made.from) joined_after found.1)
+    by_end (inl all) = subst (FromFirst now) (sym all.1) made
+    by_end (inr found) = then_from now took.were.last after.pair made (λ v is. nothing_led choice_is now took.were.last after.pair v is found.1)
 
-  line_from : (order : Order) (before after : Course) (did : Did order before after) → InLine order before after did → FromFirst now before.pair → AreJoined before.pair → AreJoined after.pair → FromFirst now after.pair
-  line_from (Text p name bytes) before after did each from joined joined_after = then_from now before.pair after.pair from (λ v is. put_line now p name bytes before after v is did)
-  line_from (Fill p name n) before after did each from joined joined_after = then_from now before.pair after.pair from (λ v is. put_line now p name (filling n) before after v is did)
-  line_from (Do p text) before after did each from joined joined_after = then_from now before.pair after.pair from (λ v is.
+  line_from : (order : Order) (before after : Course) → Did order before after → FromFirst now before.pair → FromFirst now after.pair
+  line_from (Text p name bytes) before after did from = then_from now before.pair after.pair from (λ v is. put_line now p name bytes before after v is did)
+  line_from (Fill p name n) before after did from = then_from now before.pair after.pair from (λ v is. put_line now p name (filling n) before after v is did)
+  line_from (Do p text) before after did from = then_from now before.pair after.pair from (λ v is.
       side_led now before.pair after.pair v is p did.other (reply_moment text did.reply (half_of p before.pair) (half_of p after.pair) did.done) (reply_quiet text did.reply (half_of p before.pair) (half_of p after.pair) did.done)
       (λ x other u are moment. reply_led now (half_of p before.pair) (half_of p after.pair) other u x are moment (home_of p before.pair (homes_of now before.pair from)) text did.reply did.done))
-  line_from (Turn n) before after did each from joined joined_after = turns_line n before after from joined joined_after did each
+  line_from (Turn n) before after took from = turns_line n before after from took
 
 -- The whole course.
-
-last_joined : (orders : List Order) (course : Course) (ran : Ran orders course) → AlwaysJoined orders course ran → AreJoined course.pair
-last_joined orders course (begun {course = first} is) always = always
-last_joined orders course (done {order = order} {orders = earlier} {before = before} {after = after} ran did) always = always.2
 
 alone_at : (name : List ℕ) (home now : ℕ) (half : Half) → entries_of half ≡ entry.Home name home ∷ [] → IsFresh now half → HasHomeAlone name home half.node (told_of half)
 alone_at name home now half journal fresh = record { journal = journal; sessions = fresh.sessions; readings = fresh.readings; holdings = fresh.holdings; shelf = fresh.files }
@@ -302,8 +268,8 @@ alone_at name home now half journal fresh = record { journal = journal; sessions
 names_apart : codes "ALPHA" ≡ codes "BETA" → ⊥
 names_apart same = false≢true (ap (λ (name : List ℕ). bytes_eq name (codes "ALPHA")) (sym same))
 
-pub course_led : (choice_is : ChoiceIs) (priorities : HavePriorities canonical_reading) (orders : List Order) (course : Course) (ran : Ran orders course) → AlwaysJoined orders course ran → FromFirst 1709287200 course.pair
-course_led choice_is priorities orders course (begun {course = first} is) always =
+pub course_led : (choice_is : ChoiceIs) (priorities : HavePriorities canonical_reading) (orders : List Order) (course : Course) → Ran orders course → FromFirst 1709287200 course.pair
+course_led choice_is priorities orders course (begun {course = first} is) =
     let new = is.pair in
     let alone_a : HasHomeAlone (codes "ALPHA") 1 first.pair.a.node (told_of first.pair.a) = alone_at (codes "ALPHA") 1 1709287200 first.pair.a new.home_a new.fresh_a in
     let alone_b : HasHomeAlone (codes "BETA") 2 first.pair.b.node (told_of first.pair.b) = alone_at (codes "BETA") 2 1709287200 first.pair.b new.home_b new.fresh_b in
@@ -321,10 +287,8 @@ course_led choice_is priorities orders course (begun {course = first} is) always
           moment_b = new.fresh_b.at;
           links = subst (AreLinked 1 (taken_in first.pair.a) (taken_in first.pair.b)) (sym new.links) tt;
           counted = ap length new.links ∙ sym (ap length new.fresh_a.sessions);
-          block_a = new.set_up_a.block;
-          block_b = new.set_up_b.block;
         };
       };
     }
-course_led choice_is priorities orders course (done {order = order} {orders = earlier} {before = before} {after = after} ran did) always =
-    line_from choice_is 1709287200 order before after did always.1 (course_led choice_is priorities earlier before ran always.0) (last_joined earlier before ran always.0) always.2
+course_led choice_is priorities orders course (done {order = order} {orders = earlier} {before = before} {after = after} ran did) =
+    line_from choice_is 1709287200 order before after did (course_led choice_is priorities earlier before ran)

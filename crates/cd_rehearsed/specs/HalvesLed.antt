@@ -7,10 +7,9 @@ use Rattle.cd_outside.specs.declared.sid.Sid.{Sid}
 use Rattle.cd_memory.specs.MemoryFiles as files
 use Rattle.cd_memory.specs.MemoryLines.{last_of, traffic_of, counts_of}
 use Rattle.cd_memory.specs.declared.files.MemoryFiles.{MemoryFiles}
-use Rattle.cd_status.specs.Processes.{own_home}
 use Rattle.cd_status.specs.Queue.{next_due}
 use Rattle.cd_moves.specs.declared.session.Phase.TheVariants.{Gone, Fresh}
-use Rattle.cd_moves.specs.Rows.{hello, row_chosen}
+use Rattle.cd_moves.specs.Rows.{row_chosen}
 use Rattle.cd_handling.proofs.Taken.{done_taken}
 use Rattle.cd_parts.specs.Desk.{desk_of}
 use Rattle.cd_node.specs.declared.session.Session.{Session}
@@ -28,9 +27,8 @@ use Rattle.cd_world.specs.World.{At, World}
 use Rattle.cd_rehearsed.specs.Brought.{Brought}
 use Rattle.cd_rehearsed.specs.ChoicesLed.{ChoiceIs, same_world, placed_led}
 use Rattle.cd_rehearsed.specs.ConnectedLed.{connected_led}
-use Rattle.cd_rehearsed.specs.Joined.{WroteIn}
 use Rattle.cd_rehearsed.specs.Led.{leads_none}
-use Rattle.cd_rehearsed.specs.Mirrors.{EachFrame, IsWorldOf, LeadsTo}
+use Rattle.cd_rehearsed.specs.Mirrors.{IsWorldOf, LeadsTo}
 use Rattle.cd_rehearsed.specs.Numbered.{AreNumbered, numbered_more, last_number}
 use Rattle.cd_rehearsed.specs.TurnsLed.{turn_counted, turn_led, none_led, none_came, taken_elsewhere, same_many}
 
@@ -83,11 +81,11 @@ module _ (now : ℕ) (here after other : Half) (w : World) (x : At) (way : List 
   abbrev HowTurned : Type 0
   HowTurned = HadTurn (Unit {0}) (Unit {0}) canonical_reading here.moment sid answer here.node after.node (told_of here) (told_of after) ⊎ NoTurn sid answer here.node after.node (told_of here) (told_of after)
 
-  pub half_turned : WroteIn sid answer here after t.turned → LeadsTo x w (AreWorld now after other)
-  half_turned wrote = subst (λ (m : ℕ). LeadsTo x w (AreWorld m after other)) moment (by_turn t.turned wrote) where
-    by_turn : (turned : HowTurned) → WroteIn sid answer here after turned → LeadsTo x w (AreWorld here.moment after other)
-    by_turn (inl had) wrote = turn_led canonical_reading here.moment here.node other.node after.node (told_of here) (told_of after) (told_of other) w x h_then sid answer had t.same.config way passed now_passed answered brought wrote
-    by_turn (inr none) wrote = none_led canonical_reading here.moment here.node other.node after.node (told_of here) (told_of after) (told_of other) w x h_then sid answer none
+  pub half_turned : LeadsTo x w (AreWorld now after other)
+  half_turned = subst (λ (m : ℕ). LeadsTo x w (AreWorld m after other)) moment (by_turn t.turned) where
+    by_turn : HowTurned → LeadsTo x w (AreWorld here.moment after other)
+    by_turn (inl had) = turn_led canonical_reading here.moment here.node other.node after.node (told_of here) (told_of after) (told_of other) w x h_then sid answer had t.same.config way passed now_passed answered brought
+    by_turn (inr none) = none_led canonical_reading here.moment here.node other.node after.node (told_of here) (told_of after) (told_of other) w x h_then sid answer none
 
   -- so many bytes were taken as came
   pub half_counted : now_passed ≡ length (taken_in after sid.number)
@@ -132,18 +130,17 @@ takes_there : (other other_after : Half) (more : Bool) → more ≡ true → Fol
 takes_there other other_after true is follows = follows
 takes_there other other_after false is follows = absurd cc
 
--- the newest session of each node has the number of all its sessions, where there is one more
-abbrev pub AreCounted : Bool → Half → Half → Type 0
-AreCounted true here other = (last_of here.lines ≡ length here.node.sessions) × (last_of other.lines ≡ length other.node.sessions)
-AreCounted false here other = Unit {0}
+-- the newest session of each node's lines has the number of all its sessions, where there is one more
+abbrev pub AreNewest : Bool → Half → Half → Type 0
+AreNewest true here other = (last_of here.lines ≡ length here.node.sessions) × (last_of other.lines ≡ length other.node.sessions)
+AreNewest false here other = Unit {0}
 
 -- A choice, and what the other node did about it.
 module _ (choice_is : ChoiceIs) (now : ℕ) (here after other other_after : Half) (w : World) (x : At) (h : AreWorld now here other w) where
   -- what is asked of both nodes before and behind it
   pub record CanChoose : Type 0 where
     pub moment : here.moment ≡ now
-    pub counted : AreCounted (ltb (length here.node.sessions) (length after.node.sessions)) after other_after
-    pub greets : EachFrame (hello (own_home (entries_of here)) here.node.config.block)
+    pub counted : AreNewest (ltb (length here.node.sessions) (length after.node.sessions)) after other_after
 
   abbrev Led : Type 0
   Led = LeadsTo x w (IsWorldOf canonical_reading now after.node other_after.node (told_of after) (told_of other_after))
@@ -171,8 +168,8 @@ module _ (choice_is : ChoiceIs) (now : ℕ) (here after other other_after : Half
         more : ltb (length here.node.sessions) (length after.node.sessions) ≡ true
         more = lt-ltb (length here.node.sessions) (length after.node.sessions) (omega (arith, longer))
 
-        counted : AreCounted true after other_after
-        counted = subst (λ (b : Bool). AreCounted b after other_after) more can.counted
+        counted : AreNewest true after other_after
+        counted = subst (λ (b : Bool). AreNewest b after other_after) more can.counted
 
         numbered : AreNumbered 1 after.node.sessions
         numbered = by_made chose.made where
@@ -214,7 +211,6 @@ module _ (choice_is : ChoiceIs) (now : ℕ) (here after other other_after : Half
                 number_there = last_there session;
                 unused = fresh_here chose.made;
                 unused_there = subst (λ (n : ℕ). IsFresh n (traffic_of other.lines)) (last_there session) (subst (IsFresh (last_of other_after.lines)) took.took.traffic (took.took.unused session.made));
-                written = can.greets;
               })
           by_answer (inr none) = let clash : handled.Went ≡ handled.NoMore = none.answered in absurd cc
 

@@ -1,13 +1,10 @@
 pub mod BegunLed
 pub mod Brought
-pub mod Carried
 pub mod ChoicesLed
 pub mod ConnectedLed
 pub mod CourseLed
 pub mod DeedsDone
-pub mod Greeted
 pub mod HalvesLed
-pub mod Joined
 pub mod Led
 pub mod Linked
 pub mod Mirrors

@@ -1,11 +1,11 @@
 -- Two running nodes, and what is on the way between them, as a world of the rules.
-use Rattle.std.specs.Prelude.{◌≡◌, ℕ, suc, ◌++◌, List, [], ◌∷◌, length, Bool, true, false, slice_get, Some}
-use Rattle.cd_frames.specs.Frame.{IsFrame}
+use Rattle.std.specs.Prelude.{◌≡◌, ℕ, suc, ◌++◌, List, length, Bool, true, false, slice_get, Some}
 use Rattle.cd_frames.specs.Message.{Message}
 use Rattle.cd_frames.specs.Reading as streams
 use Rattle.cd_frames.specs.Run.{Run}
 use Rattle.cd_frames.specs.Stream.{joined}
 use Rattle.cd_legal.specs.Steps.{Reading}
+use Rattle.cd_deeds.specs.Stands.{AreFrames}
 use Rattle.cd_node.specs.Sessions.{phase_among}
 use Rattle.cd_node.specs.declared.session.Session.{Session}
 use Rattle.cd_plain.specs.Law.{IsNodeOf}
@@ -14,10 +14,6 @@ use Rattle.cd_plain.specs.Turned.{Told}
 use Rattle.cd_world.specs.World.{At, Half, World, Event, seen_from, is_gone, ArePossible, after}
 use Rattle.cd_rehearsed.specs.Numbered.{AreNumbered}
 
-abbrev pub EachFrame : List Message → Type 0
-EachFrame [] = Unit {0}
-EachFrame (m ∷ frames) = IsFrame m × EachFrame frames
-
 -- What a node heard in a session, and what is on the way to it, are, joined, the bytes that the other node gave. All of that are frames
 -- in their form, and it took no byte that it didn't hear. An end waits behind them only where the other node closed the session.
 pub record Spoken (other : NodeState) (number : ℕ) (reader : streams.Reading) (taken given : List ℕ) (way : List Message) (ended : Bool) : Type 0 where
@@ -25,7 +21,7 @@ pub record Spoken (other : NodeState) (number : ℕ) (reader : streams.Reading) 
   pub run : Run taken heard reader
   pub all_heard : taken ≡ joined heard
   pub bytes : given ≡ joined (heard ++ way)
-  pub each : EachFrame way
+  pub each : AreFrames way
   pub ends : ended ≡ true → is_gone (phase_among other.sessions number) ≡ true
 
 -- so it is in each session that the node has open

@@ -5,28 +5,25 @@ use Rattle.std.proofs.lemmas.Bool.{le-ltb, ltb-true, ltb-false}
 use Rattle.cd_outside.specs.Lines.{Traffic}
 use Rattle.cd_outside.specs.declared.sid.Sid.{Sid}
 use Rattle.cd_memory.specs.MemoryLines.{last_of, traffic_of, counts_of}
-use Rattle.cd_status.specs.Processes.{own_home}
-use Rattle.cd_moves.specs.Rows.{hello}
 use Rattle.cd_moves.specs.declared.session.Phase.TheVariants.{Fresh}
 use Rattle.cd_node.specs.declared.session.Session.{Session}
 use Rattle.cd_plain.specs.Choice.{Accepted, MadeSession}
 use Rattle.cd_plain.specs.declared.handled.Handled.{Handled}
 use Rattle.cd_plain.specs.declared.handled.Handled.TheVariants as handled
 use Rattle.cd_reading.specs.Read.{canonical_reading}
-use Rattle.cd_drill.specs.AtRest.{told_of, entries_of, IsSame, Chose, Took}
-use Rattle.cd_drill.specs.Pairs.{Turned, HandledIn, HandledAtB, HandledAtA, on_way, CameOf, with_a, with_b, FollowedBy, has_more, newest, newest_of, ChoseAtA, ChoseAtB, ChoseThere, ChoseBehind, FoundNothing}
+use Rattle.cd_drill.specs.AtRest.{told_of, IsSame, Chose, Took}
+use Rattle.cd_drill.specs.Pairs.{Turned, HandledIn, HandledAtB, HandledAtA, on_way, CameOf, with_a, with_b, FollowedBy, has_more, newest, newest_of, CountsAll, AreCounted, ChoseAtA, ChoseAtB, ChoseThere, ChoseBehind, FoundNothing}
 use Rattle.cd_drill.specs.declared.half.Half.{Half}
 use Rattle.cd_drill.specs.declared.pair.Link.{Link}
 use Rattle.cd_drill.specs.declared.pair.Pair.{Pair}
 use Rattle.cd_world.specs.World.{A, B, World, seen_from}
 use Rattle.cd_rehearsed.specs.Brought.{Brought}
 use Rattle.cd_rehearsed.specs.ChoicesLed.{ChoiceIs}
-use Rattle.cd_rehearsed.specs.HalvesLed.{AreWorld, taken_in, came_world, came_same, came_sessions, came_taken, came_passed, half_turned, half_counted, half_elsewhere, half_sessions, chose_taken, Follows, AreCounted, chose_led}
-use Rattle.cd_rehearsed.specs.Joined.{AreJoined, WroteAt, Wrote}
+use Rattle.cd_rehearsed.specs.HalvesLed.{AreWorld, taken_in, came_world, came_same, came_sessions, came_taken, came_passed, half_turned, half_counted, half_elsewhere, half_sessions, chose_taken, Follows, AreNewest, chose_led}
 use Rattle.cd_rehearsed.specs.Led.{leads_across, seen_across}
 use Rattle.cd_rehearsed.specs.Linked.{IsLinked, AreLinked, linked_at, linked_set, linked_more}
-use Rattle.cd_rehearsed.specs.Numbered.{set_length}
-use Rattle.cd_rehearsed.specs.Mirrors.{EachFrame, LeadsTo}
+use Rattle.cd_rehearsed.specs.Numbered.{set_length, last_counted}
+use Rattle.cd_rehearsed.specs.Mirrors.{LeadsTo}
 
 -- the pair is this world, at this moment
 pub record IsWorld (now : ℕ) (pair : Pair) (w : World) : Type 0 where
@@ -35,13 +32,6 @@ pub record IsWorld (now : ℕ) (pair : Pair) (w : World) : Type 0 where
   pub moment_b : pair.b.moment ≡ now
   pub links : AreLinked 1 (taken_in pair.a) (taken_in pair.b) pair.links.items
   pub counted : length pair.links.items ≡ length pair.a.node.sessions
-  pub block_a : pair.a.node.config.block ≡ 8192
-  pub block_b : pair.b.node.config.block ≡ 8192
-
--- what each of them says first is a frame in its form
-pub record AreGreeting (pair : Pair) : Type 0 where
-  pub a : EachFrame (hello (own_home (entries_of pair.a)) pair.a.node.config.block)
-  pub b : EachFrame (hello (own_home (entries_of pair.b)) pair.b.node.config.block)
 
 -- what was led to from the other view
 from_b : (now : ℕ) (a b : Half) (w : World) → LeadsTo B (seen_from B w) (AreWorld now b a) → LeadsTo A w (AreWorld now a b)
@@ -84,20 +74,18 @@ module _ (now : ℕ) (before after : Pair) (w : World) (h : IsWorld now before w
       moment_b = same_b.moment ∙ h.moment_b;
       links = links;
       counted = counted;
-      block_a = ap (λ c. c.block) same_a.config ∙ h.block_a;
-      block_b = ap (λ c. c.block) same_b.config ∙ h.block_b;
     };
   }
 
-  at_b : (at : ℕ) (link : Link) → slice_get before.links.items at ≡ Some link → (b : HandledAtB at link before after) → WroteAt at link before after (inl b) → LeadsTo A w (IsWorld now after)
-  at_b at link stands b wrote =
+  at_b : (at : ℕ) (link : Link) → slice_get before.links.items at ≡ Some link → (b : HandledAtB at link before after) → LeadsTo A w (IsWorld now after)
+  at_b at link stands b =
       let linked : IsLinked (1 + at) (taken_in before.a) (taken_in before.b) link = linked_at 1 (1 + at) (taken_in before.a) (taken_in before.b) before.links.items at link refl h.links stands in
       let moment_at : b.was.at.moment ≡ now = (came_same (on_way before.a link.at_a link.of_a) link.at_b link.of_a b.passed before.b b.was.at b.was.came).moment ∙ h.moment_b in
       let ready : AreWorld now b.was.at before.a (seen_from B w) = came_world now before.b b.was.at before.a (seen_from B w) across_world (on_way before.a link.at_a link.of_a) link.at_b link.of_a b.passed b.was.came in
       let brought : Brought (on_way before.a link.at_a link.of_a) link.of_a b.passed (taken_in b.was.at link.at_b.number) (taken_in after.b link.at_b.number) ((traffic_of before.a.lines).given link.at_b.number) =
       brought_to before.a before.b b.was.at after.b link.at_a link.at_b link.of_a b.passed (linked.at_a ∙ sym linked.at_b) (linked.of_a ∙ ap (λ (n : ℕ). length (taken_in before.b n)) (sym linked.at_b)) b.was.came b.was.taken in
       let led : LeadsTo B (seen_from B w) (AreWorld now after.b before.a) =
-      half_turned now b.was.at after.b before.a (seen_from B w) B (on_way before.a link.at_a link.of_a) link.at_b b.was.answer b.was.answered ready moment_at b.was.turned link.of_a b.passed brought wrote in
+      half_turned now b.was.at after.b before.a (seen_from B w) B (on_way before.a link.at_a link.of_a) link.at_b b.was.answer b.was.answered ready moment_at b.was.turned link.of_a b.passed brought in
       let one : IsLinked (1 + at) (taken_in before.a) (taken_in after.b) (with_a link b.passed) = record {
         at_a = linked.at_a;
         at_b = linked.at_b;
@@ -114,15 +102,15 @@ module _ (now : ℕ) (before after : Pair) (w : World) (h : IsWorld now before w
       (ap length b.links ∙ set_length before.links.items at (with_a link b.passed) ∙ h.counted ∙ sym (ap (λ (half : Half). length half.node.sessions) b.other))
       (subst (λ (half : Half). LeadsTo A w (AreWorld now half after.b)) (sym b.other) (from_b now before.a after.b w led))
 
-  at_a : (at : ℕ) (link : Link) → slice_get before.links.items at ≡ Some link → (a : HandledAtA at link before after) → WroteAt at link before after (inr a) → LeadsTo A w (IsWorld now after)
-  at_a at link stands a wrote =
+  at_a : (at : ℕ) (link : Link) → slice_get before.links.items at ≡ Some link → (a : HandledAtA at link before after) → LeadsTo A w (IsWorld now after)
+  at_a at link stands a =
       let linked : IsLinked (1 + at) (taken_in before.a) (taken_in before.b) link = linked_at 1 (1 + at) (taken_in before.a) (taken_in before.b) before.links.items at link refl h.links stands in
       let moment_at : a.was.at.moment ≡ now = (came_same (on_way before.b link.at_b link.of_b) link.at_a link.of_b a.passed before.a a.was.at a.was.came).moment ∙ h.moment_a in
       let ready : AreWorld now a.was.at before.b w = came_world now before.a a.was.at before.b w h.are (on_way before.b link.at_b link.of_b) link.at_a link.of_b a.passed a.was.came in
       let brought : Brought (on_way before.b link.at_b link.of_b) link.of_b a.passed (taken_in a.was.at link.at_a.number) (taken_in after.a link.at_a.number) ((traffic_of before.b.lines).given link.at_a.number) =
       brought_to before.b before.a a.was.at after.a link.at_b link.at_a link.of_b a.passed (linked.at_b ∙ sym linked.at_a) (linked.of_b ∙ ap (λ (n : ℕ). length (taken_in before.a n)) (sym linked.at_a)) a.was.came a.was.taken in
       let led : LeadsTo A w (AreWorld now after.a before.b) =
-      half_turned now a.was.at after.a before.b w A (on_way before.b link.at_b link.of_b) link.at_a a.was.answer a.was.answered ready moment_at a.was.turned link.of_b a.passed brought wrote in
+      half_turned now a.was.at after.a before.b w A (on_way before.b link.at_b link.of_b) link.at_a a.was.answer a.was.answered ready moment_at a.was.turned link.of_b a.passed brought in
       let one : IsLinked (1 + at) (taken_in after.a) (taken_in before.b) (with_b link a.passed) = record {
         at_a = linked.at_a;
         at_b = linked.at_b;
@@ -140,9 +128,9 @@ module _ (now : ℕ) (before after : Pair) (w : World) (h : IsWorld now before w
       ∙ sym (half_sessions a.was.at after.a link.at_a a.was.answer a.was.turned ∙ came_sessions (on_way before.b link.at_b link.of_b) link.at_a link.of_b a.passed before.a a.was.at a.was.came))
       (subst (λ (half : Half). LeadsTo A w (AreWorld now after.a half)) (sym a.other) led)
 
-  handled_led : (at : ℕ) (link : Link) → slice_get before.links.items at ≡ Some link → (one : HandledIn at link true before after) → WroteAt at link before after one → LeadsTo A w (IsWorld now after)
-  handled_led at link stands (inl b) wrote = at_b at link stands b wrote
-  handled_led at link stands (inr a) wrote = at_a at link stands a wrote
+  handled_led : (at : ℕ) (link : Link) → slice_get before.links.items at ≡ Some link → HandledIn at link true before after → LeadsTo A w (IsWorld now after)
+  handled_led at link stands (inl b) = at_b at link stands b
+  handled_led at link stands (inr a) = at_a at link stands a
 
 -- the number of a session that was made by a choice
 made_number : (before after : Half) → last_of after.lines ≡ length after.node.sessions → has_more before after ≡ true → MadeSession (last_of before.lines) (last_of after.lines) before.node after.node → last_of after.lines ≡ 1 + length before.node.sessions
@@ -198,10 +186,21 @@ followed_taken : (more : Bool) (other other_after : Half) (new links links_after
 followed_taken true other other_after new links links_after f = ap (λ (t : Traffic). t.taken) f.0.took.traffic
 followed_taken false other other_after new links links_after f = ap taken_in f.0
 
--- the newest session of each node has the number of all, where one was made
-counted_by : (after : Pair) (more : Bool) → AreJoined after → AreCounted more after.a after.b
-counted_by after true joined = (joined.counted_a, joined.counted_b)
-counted_by after false joined = tt
+-- the newest session of the lines has the number of all, where one was made, and where one was taken
+made_newest : (before after : Half) → MadeSession (last_of before.lines) (last_of after.lines) before.node after.node → has_more before after ≡ true → CountsAll after.node.sessions → last_of after.lines ≡ length after.node.sessions
+made_newest before after (inl one) more counted = last_counted after.node.sessions before.node.sessions (record { sid = record { number = last_of after.lines }; phase = one.opened.phase }) one.opened.sessions counted
+made_newest before after (inr none) more counted = absurd (omega (arith, ltb-true (length before.node.sessions) (length after.node.sessions) more, ap (λ (l : List Session). length l) none.sessions))
+
+took_newest : (before after : Half) → Took handled.Went before after → CountsAll after.node.sessions → last_of after.lines ≡ length after.node.sessions
+took_newest before after took counted = by_accepted took.accepted where
+  by_accepted : Accepted handled.Went (last_of before.lines) (last_of after.lines) (counts_of before.lines) (counts_of after.lines) before.node after.node → last_of after.lines ≡ length after.node.sessions
+  by_accepted (inl session) = last_counted after.node.sessions before.node.sessions (record { sid = record { number = last_of after.lines }; phase = Fresh }) session.sessions counted
+  by_accepted (inr none) = let clash : handled.Went ≡ handled.NoMore = none.answered in absurd cc
+
+newest_by : (answer : Handled) (before after other other_after : Half) (new links links_after : List Link) (more : Bool) → has_more before after ≡ more → Chose answer before after → FollowedBy more other other_after new links links_after
+    → AreCounted more after other_after → AreNewest more after other_after
+newest_by answer before after other other_after new links links_after true is chose f counted = (made_newest before after chose.made is counted.0, took_newest other other_after f.0.took counted.1)
+newest_by answer before after other other_after new links links_after false is chose f counted = tt
 
 counted_across : (more : Bool) (here other : Half) → AreCounted more here other → AreCounted more other here
 counted_across true here other counted = (counted.1, counted.0)
@@ -209,7 +208,7 @@ counted_across false here other counted = tt
 
 -- The link of a session that was begun at one node and taken at the other one.
 module _ (answer : Handled) (here after other other_after : Half) (chose : Chose answer here after) (more : has_more here after ≡ true) (took : Took handled.Went other other_after) (count : length other.node.sessions ≡ length here.node.sessions)
-    (same : taken_in after ≡ taken_in here) (counted : AreCounted true after other_after) where
+    (same : taken_in after ≡ taken_in here) (counted : AreNewest true after other_after) where
   abbrev newest_number : ℕ
   newest_number = 1 + length here.node.sessions
 
@@ -235,8 +234,8 @@ followed_same true other other_after new links links_after f = f.0.took.same
 followed_same false other other_after new links links_after f = stays_same other other_after f.0
 
 module _ (choice_is : ChoiceIs) (now : ℕ) (before after : Pair) (w : World) (h : IsWorld now before w) where
-  pub chose_at_a : AreGreeting before → AreJoined after → (answer : Handled) → ((sid : Sid) → answer ≡ handled.Lost sid → ⊥) → ChoseAtA answer before after → LeadsTo A w (IsWorld now after)
-  chose_at_a greeting joined_after answer stays c =
+  pub chose_at_a : (answer : Handled) → ((sid : Sid) → answer ≡ handled.Lost sid → ⊥) → ChoseAtA answer before after → LeadsTo A w (IsWorld now after)
+  chose_at_a answer stays c =
       whole now before after w h c.chose.same (followed_same (has_more before.a after.a) before.b after.b _ _ _ c.followed)
       (followed_links before.b after.b (record { at_a = newest_of after.a; at_b = newest_of after.b; of_a = 0; of_b = 0 }) before.links.items after.links.items (taken_in after.a) (taken_in after.b) (has_more before.a after.a) c.followed
       one (subst (λ (f : ℕ → List ℕ). AreLinked 1 f (taken_in after.b) before.links.items) (sym same_a) (subst (λ (f : ℕ → List ℕ). AreLinked 1 (taken_in before.a) f before.links.items) (sym same_b) h.links)))
@@ -244,8 +243,7 @@ module _ (choice_is : ChoiceIs) (now : ℕ) (before after : Pair) (w : World) (h
       ∙ ap (λ (n : ℕ). n + cond (has_more before.a after.a) 1 0) h.counted ∙ sym (made_length before.a after.a c.chose.made (has_more before.a after.a) refl))
       (chose_led choice_is now before.a after.a before.b after.b w A h.are (record {
         moment = h.moment_a;
-        counted = counted_by after (has_more before.a after.a) joined_after;
-        greets = greeting.a;
+        counted = newest_by answer before.a after.a before.b after.b _ _ _ (has_more before.a after.a) refl c.chose c.followed c.counted;
       }) answer stays c.chose (followed_there (has_more before.a after.a) before.b after.b _ _ _ c.followed))
     where
       same_a : taken_in after.a ≡ taken_in before.a
@@ -256,7 +254,7 @@ module _ (choice_is : ChoiceIs) (now : ℕ) (before after : Pair) (w : World) (h
 
       one : has_more before.a after.a ≡ true → Took handled.Went before.b after.b → IsLinked (1 + length before.links.items) (taken_in after.a) (taken_in after.b) (record { at_a = newest_of after.a; at_b = newest_of after.b; of_a = 0; of_b = 0 })
       one more took =
-          let counted : AreCounted true after.a after.b = counted_by after true joined_after in
+          let counted : AreNewest true after.a after.b = subst (λ (b : Bool). AreNewest b after.a after.b) more (newest_by answer before.a after.a before.b after.b _ _ _ (has_more before.a after.a) refl c.chose c.followed c.counted) in
           subst (λ (n : ℕ). IsLinked (1 + n) (taken_in after.a) (taken_in after.b) (record { at_a = newest_of after.a; at_b = newest_of after.b; of_a = 0; of_b = 0 })) (sym h.counted) (record {
             at_a = begun_number answer before.a after.a before.b after.b c.chose more took h.are.count same_a counted;
             at_b = taken_number answer before.a after.a before.b after.b c.chose more took h.are.count same_a counted;
@@ -290,14 +288,12 @@ module _ (choice_is : ChoiceIs) (now : ℕ) (before after : Pair) (w : World) (h
     links = subst (λ (half : Half). AreLinked 1 (taken_in half) (taken_in after.b) after.links.items) (sym s.a)
         (subst (λ (half : Half). AreLinked 1 (taken_in before.a) (taken_in half) after.links.items) (sym s.b) (subst (AreLinked 1 (taken_in before.a) (taken_in before.b)) (sym s.links) h.links));
     counted = ap length s.links ∙ h.counted ∙ sym (ap (λ (half : Half). length half.node.sessions) s.a);
-    block_a = ap (λ (half : Half). half.node.config.block) s.a ∙ h.block_a;
-    block_b = ap (λ (half : Half). half.node.config.block) s.b ∙ h.block_b;
   }
 
 module _ (choice_is : ChoiceIs) (now : ℕ) (before between after : Pair) (w : World) (h : IsWorld now before w) where
   -- B chose, where A had nothing to choose
-  pub chose_behind : AreGreeting before → AreJoined after → (answer : Handled) → ((sid : Sid) → answer ≡ handled.Lost sid → ⊥) → ChoseAtA handled.Idle before between → ChoseAtB answer between after → LeadsTo A w (IsWorld now after)
-  chose_behind greeting joined_after answer stays idle c =
+  pub chose_behind : (answer : Handled) → ((sid : Sid) → answer ≡ handled.Lost sid → ⊥) → ChoseAtA handled.Idle before between → ChoseAtB answer between after → LeadsTo A w (IsWorld now after)
+  chose_behind answer stays idle c =
       whole now between after w at_between (followed_same (has_more between.b after.b) between.a after.a _ _ _ c.followed) c.chose.same
       (followed_links between.a after.a (record { at_a = newest_of after.a; at_b = newest_of after.b; of_a = 0; of_b = 0 }) between.links.items after.links.items (taken_in after.a) (taken_in after.b) (has_more between.b after.b) c.followed
       one (subst (λ (f : ℕ → List ℕ). AreLinked 1 f (taken_in after.b) between.links.items) (sym same_a) (subst (λ (f : ℕ → List ℕ). AreLinked 1 (taken_in between.a) f between.links.items) (sym same_b) at_between.links)))
@@ -308,11 +304,13 @@ module _ (choice_is : ChoiceIs) (now : ℕ) (before between after : Pair) (w : W
       at_between : IsWorld now between w
       at_between = still_world choice_is now before between w h (idle_at_a choice_is now before between w h idle)
 
+      newest_b : AreNewest (has_more between.b after.b) after.b after.a
+      newest_b = newest_by answer between.b after.b between.a after.a _ _ _ (has_more between.b after.b) refl c.chose c.followed (counted_across (has_more between.b after.b) after.a after.b c.counted)
+
       led : LeadsTo B (seen_from B w) (AreWorld now after.b after.a)
       led = chose_led choice_is now between.b after.b between.a after.a (seen_from B w) B (across_world now between after w at_between) (record {
         moment = at_between.moment_b;
-        counted = counted_across (has_more between.b after.b) after.a after.b (counted_by after (has_more between.b after.b) joined_after);
-        greets = subst (λ (half : Half). EachFrame (hello (own_home (entries_of half)) half.node.config.block)) (sym (idle_at_a choice_is now before between w h idle).b) greeting.b;
+        counted = newest_b;
       }) answer stays c.chose (followed_there (has_more between.b after.b) between.a after.a _ _ _ c.followed)
 
       same_b : taken_in after.b ≡ taken_in between.b
@@ -323,7 +321,7 @@ module _ (choice_is : ChoiceIs) (now : ℕ) (before between after : Pair) (w : W
 
       one : has_more between.b after.b ≡ true → Took handled.Went between.a after.a → IsLinked (1 + length between.links.items) (taken_in after.a) (taken_in after.b) (record { at_a = newest_of after.a; at_b = newest_of after.b; of_a = 0; of_b = 0 })
       one more took =
-          let counted : AreCounted true after.b after.a = counted_across true after.a after.b (counted_by after true joined_after) in
+          let counted : AreNewest true after.b after.a = subst (λ (b : Bool). AreNewest b after.b after.a) more newest_b in
           let count : length between.a.node.sessions ≡ length between.b.node.sessions = sym at_between.are.count in
           subst (λ (n : ℕ). IsLinked (1 + n) (taken_in after.a) (taken_in after.b) (record { at_a = newest_of after.a; at_b = newest_of after.b; of_a = 0; of_b = 0 })) (sym (at_between.counted ∙ count)) (record {
             at_a = taken_number answer between.b after.b between.a after.a c.chose more took count same_b counted;
@@ -340,14 +338,14 @@ idle_stays : (sid : Sid) → handled.Idle ≡ handled.Lost sid → ⊥
 idle_stays sid is = absurd cc
 
 -- A turn that did something.
-pub turned_led : (choice_is : ChoiceIs) (now : ℕ) (before after : Pair) (w : World) → IsWorld now before w → AreGreeting before → AreJoined after → (turned : Turned before after) → Wrote before after turned → LeadsTo A w (IsWorld now after)
-turned_led choice_is now before after w h greeting joined_after (inl one) wrote = handled_led now before after w h one.at one.link one.stands one.handled wrote
-turned_led choice_is now before after w h greeting joined_after (inr chose) wrote = by_one chose.1 where
+pub turned_led : (choice_is : ChoiceIs) (now : ℕ) (before after : Pair) (w : World) → IsWorld now before w → Turned before after → LeadsTo A w (IsWorld now after)
+turned_led choice_is now before after w h (inl one) = handled_led now before after w h one.at one.link one.stands one.handled
+turned_led choice_is now before after w h (inr chose) = by_one chose.1 where
   by_one : ChoseThere before after ⊎ ChoseBehind before after → LeadsTo A w (IsWorld now after)
-  by_one (inl there) = chose_at_a choice_is now before after w h greeting joined_after handled.Went went_stays there.chose
-  by_one (inr behind) = chose_behind choice_is now before behind.between after w h greeting joined_after handled.Went went_stays behind.idle behind.chose
+  by_one (inl there) = chose_at_a choice_is now before after w h handled.Went went_stays there.chose
+  by_one (inr behind) = chose_behind choice_is now before behind.between after w h handled.Went went_stays behind.idle behind.chose
 
 -- A turn that found nothing to do.
-pub nothing_led : (choice_is : ChoiceIs) (now : ℕ) (before after : Pair) (w : World) → IsWorld now before w → AreGreeting before → AreJoined after → FoundNothing before after → LeadsTo A w (IsWorld now after)
-nothing_led choice_is now before after w h greeting joined_after found =
-    chose_behind choice_is now before found.1.between after w h greeting joined_after handled.Idle idle_stays found.1.idle found.1.still
+pub nothing_led : (choice_is : ChoiceIs) (now : ℕ) (before after : Pair) (w : World) → IsWorld now before w → FoundNothing before after → LeadsTo A w (IsWorld now after)
+nothing_led choice_is now before after w h found =
+    chose_behind choice_is now before found.1.between after w h handled.Idle idle_stays found.1.idle found.1.still

@@ -18,7 +18,6 @@ use Rattle.cd_world.specs.World as worlds
 use Rattle.cd_world.specs.World.{World, Event, IsFirst, ArePossible, after}
 use Rattle.cd_rehearsed.specs.ChoicesLed.{ChoiceIs}
 use Rattle.cd_rehearsed.specs.CourseLed.{FromFirst, course_led}
-use Rattle.cd_rehearsed.specs.Joined.{AlwaysJoined}
 use Rattle.cd_rehearsed.specs.Mirrors.{IsHalf}
 use Rattle.cd_rehearsed.specs.PairsLed.{IsWorld}
 use Rattle.cd_rehearsed.specs.Rehearsed.{IsShown, Promised, IsRehearsed}
@@ -42,9 +41,9 @@ shown here other given half is = record {
   files = ap (λ (s : Shelf). s.seen) is.shelf;
 }
 
-pub rehearsed : (choice_is : ChoiceIs) (priorities : HavePriorities canonical_reading) (orders : List Order) (course : Course) (ran : Ran orders course) → AlwaysJoined orders course ran → IsRehearsed course.pair
-rehearsed choice_is priorities orders course ran always =
-    let begin : FromFirst 1709287200 course.pair = course_led choice_is priorities orders course ran always in
+pub rehearsed : (choice_is : ChoiceIs) (priorities : HavePriorities canonical_reading) (orders : List Order) (course : Course) → Ran orders course → IsRehearsed course.pair
+rehearsed choice_is priorities orders course ran =
+    let begin : FromFirst 1709287200 course.pair = course_led choice_is priorities orders course ran in
     let last : IsWorld 1709287200 course.pair (after begin.first begin.led.leads.events) = subst (IsWorld 1709287200 course.pair) (sym begin.led.leads.is) begin.led.so in
     record {
       first = begin.first;

@@ -15,7 +15,8 @@ use Rattle.cd_legal.specs.Steps.{Reading}
 use Rattle.cd_moves.specs.RowsLaw.{same_config}
 use Rattle.cd_moves.specs.declared.session.Phase.{Phase}
 use Rattle.cd_moves.specs.Node.{Config, Desk, Node, Deed, does, sends}
-use Rattle.cd_deeds.specs.Stands.{Stands, gave}
+use Rattle.cd_deeds.specs.Stands.{Stands, gave, AreFrames}
+use Rattle.cd_deeds.proofs.Frames.{frames_both}
 use Rattle.cd_node.specs.Sessions.{phase_among, phases_with}
 use Rattle.cd_node.specs.declared.session.Session.{Session}
 use Rattle.cd_parts.specs.Desk.{desk_of}
@@ -25,7 +26,7 @@ use Rattle.cd_plain.specs.Turned.{Told, in_phase, others_at, spot_of}
 use Rattle.cd_world.specs.GrownLaw.{does_node, does_other, does_clock}
 use Rattle.cd_world.specs.World.{At, World, is_gone, world_does}
 use Rattle.cd_rehearsed.specs.DeedsDone.{Unmoved, does_unmoved, does_sids, does_elsewhere, does_here, does_there}
-use Rattle.cd_rehearsed.specs.Mirrors.{EachFrame, Spoken, AllSpoken, IsHalf, IsWorldOf}
+use Rattle.cd_rehearsed.specs.Mirrors.{Spoken, AllSpoken, IsHalf, IsWorldOf}
 use Rattle.cd_rehearsed.specs.Numbered.{AreNumbered, numbered_at, numbered_set, get_set, get_other, set_length, set_numbers, phase_at, phase_set, phase_with}
 use Rattle.cd_rehearsed.specs.Orderly.{orderly}
 
@@ -47,10 +48,6 @@ gave_here sid (m ∷ frames) t =
     ∙ ap (λ (bytes : List ℕ). bytes ++ joined frames) (cond-true (eqb sid sid) (t.given sid ++ frame_bytes m) (t.given sid) (eq-eqb sid sid refl))
     ∙ append_assoc (t.given sid) (frame_bytes m) (joined frames)
 
-pub each_both : (first second : List Message) → EachFrame first → EachFrame second → EachFrame (first ++ second)
-each_both [] second one two = two
-each_both (m ∷ first) second one two = (one.0, each_both first second one.1 two)
-
 -- the same in a session of which nothing was changed
 pub spoken_same : (other other2 : NodeState) (number : ℕ) (reader : streams.Reading) (taken taken2 given given2 : List ℕ) (way way2 : List Message) (ended ended2 : Bool)
     → taken2 ≡ taken → given2 ≡ given → way2 ≡ way → ended2 ≡ ended → phase_among other2.sessions number ≡ phase_among other.sessions number
@@ -60,7 +57,7 @@ spoken_same other other2 number reader taken taken2 given given2 way way2 ended 
   run = subst (λ (bytes : List ℕ). Run bytes s.heard reader) (sym t) s.run;
   all_heard = t ∙ s.all_heard;
   bytes = g ∙ s.bytes ∙ ap (λ (l : List Message). joined (s.heard ++ l)) (sym y);
-  each = subst EachFrame (sym y) s.each;
+  each = subst AreFrames (sym y) s.each;
   ends = λ is. ap is_gone p ∙ s.ends (sym e ∙ is);
 }
 
@@ -99,7 +96,7 @@ module _ (read : Reading) (now : ℕ) (here other after : NodeState) (told told_
   -- what was done
   pub record WasRow : Type 0 where
     pub orderly_row : orderly false deeds ≡ true
-    pub frames : EachFrame (sends deeds)
+    pub frames : AreFrames (sends deeds)
     pub given : heard.given ≡ told.traffic.given
     pub traffic : told_after.traffic ≡ gave sid (sends deeds) heard
     pub stands_after : Stands (Unit {0}) sid (does sid deeds v.a.node) (spot_of after phase told_after)
@@ -220,7 +217,7 @@ module _ (read : Reading) (now : ℕ) (here other after : NodeState) (told told_
               bytes = given ∙ ap (λ (bytes : List ℕ). bytes ++ joined (sends deeds)) before.bytes
                   ∙ sym (flat_map-append frame_bytes (before.heard ++ v.b.way sid) (sends deeds))
                   ∙ ap joined (append_assoc before.heard (v.b.way sid) (sends deeds) ∙ ap (λ (l : List Message). before.heard ++ l) (sym way.way));
-              each = subst EachFrame (sym way.way) (each_both (v.b.way sid) (sends deeds) before.each d.frames);
+              each = subst AreFrames (sym way.way) (frames_both (v.b.way sid) (sends deeds) before.each d.frames);
               ends = λ ended. ap is_gone (phase_own ∙ sym phase_last) ∙ way.ends ended;
             })
 

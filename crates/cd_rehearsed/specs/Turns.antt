@@ -24,13 +24,13 @@ use Rattle.cd_moves.specs.Node.{Desk, Node, Deed, Keep, Touch, AskSize, AskBytes
 use Rattle.cd_moves.specs.Rows.{first_part, most_parts, row, row_end, is_done}
 use Rattle.cd_status.specs.Processes.{is_live}
 use Rattle.cd_status.specs.Queue.{placing}
-use Rattle.cd_deeds.specs.Stands.{WereDone}
+use Rattle.cd_deeds.specs.Stands.{AreFrames, WereDone}
 use Rattle.cd_node.specs.Going as going
 use Rattle.cd_node.specs.Going.{IsSo}
 use Rattle.cd_node.specs.Rest.{part_after}
 use Rattle.cd_node.specs.Sessions.{IsAt}
 use Rattle.cd_node.specs.declared.session.Session.{Session}
-use Rattle.cd_handling.specs.Handling.{the_case, AllDone, IsOf, DidEnd}
+use Rattle.cd_handling.specs.Handling.{the_case, AllDone, DidEnd}
 use Rattle.cd_plain.specs.NodeState.{NodeState}
 use Rattle.cd_handling.specs.Setting.{setting_of}
 use Rattle.cd_handling.specs.Turn.{heard_at, WasHeard}
@@ -39,7 +39,7 @@ use Rattle.cd_world.specs.World as worlds
 use Rattle.cd_world.specs.World.{At, Half, World, is_gone, at_session, world_does, world_after, world_lost, Frame, End, Task, nothing, task_of, task, came, ended, answers_now, ToldFor, AllTold}
 use Rattle.cd_rehearsed.specs.Brought.{Brought, way_is, taken_front, all_counted}
 use Rattle.cd_rehearsed.specs.Led.{does_leads, loses_leads, leads_then}
-use Rattle.cd_rehearsed.specs.Mirrors.{EachFrame, Spoken, IsWorldOf, LeadsTo}
+use Rattle.cd_rehearsed.specs.Mirrors.{Spoken, IsWorldOf, LeadsTo}
 use Rattle.cd_rehearsed.specs.Numbered.{numbered_at, phase_at, phase_with}
 use Rattle.cd_rehearsed.specs.Orderly.{row_orderly, close_orderly}
 use Rattle.cd_rehearsed.specs.TurnDone.{gave_taken, spoken_same, IsReadyFor, WasRow, row_done}
@@ -54,7 +54,7 @@ joined_one heard m = flat_map-append frame_bytes heard (m ∷ []) ∙ ap (λ (l 
 
 -- what a reader gives of a stream that begins what was given is the next of the frames
 pub next_is : (taken given later : List ℕ) (heard way : List Message) (m : Message) (reader : streams.Reading)
-    → Run taken (heard ++ m ∷ []) reader → given ≡ joined (heard ++ way) → given ≡ taken ++ later → EachFrame way → (more : List Message) × (way ≡ m ∷ more)
+    → Run taken (heard ++ m ∷ []) reader → given ≡ joined (heard ++ way) → given ≡ taken ++ later → AreFrames way → (more : List Message) × (way ≡ m ∷ more)
 next_is taken given later heard way m reader run bytes fed each = by_way way each same where
   frame : IsFrame m
   frame = subst IsFrame (get_or-append_seam heard m [] m) ((run_stands run).each (length heard) m (omega (arith, length-append heard (m ∷ []))))
@@ -68,7 +68,7 @@ next_is taken given later heard way m reader run bytes fed each = by_way way eac
       ∙ append_assoc (joined heard ++ frame_bytes m) reader.rest later ∙ append_assoc (joined heard) (frame_bytes m) (reader.rest ++ later) in
       front_cut (joined heard) (joined way) (frame_bytes m ++ (reader.rest ++ later)) all
 
-  by_way : (way : List Message) → EachFrame way → joined way ≡ frame_bytes m ++ (reader.rest ++ later) → (more : List Message) × (way ≡ m ∷ more)
+  by_way : (way : List Message) → AreFrames way → joined way ≡ frame_bytes m ++ (reader.rest ++ later) → (more : List Message) × (way ≡ m ∷ more)
   by_way [] each is = absurd (omega (arith, ap length is, length-append (frame_bytes m) (reader.rest ++ later), frame_long m))
   by_way (n ∷ more) each is =
       let two : gives n (length (frame_bytes n)) ≡ gives m (length (frame_bytes m)) =
@@ -217,14 +217,13 @@ module _ (read : Reading) (now : ℕ) (here other after : NodeState) (told told_
       frame_heard : told_after.traffic.taken n ≡ joined (spoken.heard ++ frame ∷ [])
       frame_heard =
           taken_front way passed now_passed (told.traffic.taken n) (told_after.traffic.taken n) (told_other.traffic.given n) brought (joined (w.a.way n)) begins frame (joined next_found.0)
-          (subst EachFrame next_found.1 spoken.each).0 at_front
+          (subst AreFrames next_found.1 spoken.each).0 at_front
           ∙ ap (λ (l : List ℕ). l ++ frame_bytes frame) spoken.all_heard ∙ sym (joined_one spoken.heard frame)
 
     -- the next frame was handled, and its row was done
     module _ (frame : Message) (heard : Traffic) (came_so : WasHeard (Unit {0}) n (Some frame) (spot_of here session.phase told) heard reader_before reader)
         (done : AllDone (the_case (Unit {0}) (Unit {0}) (setting_of here.config) read n now (others_at at session here.sessions) frame) (heard_at heard (spot_of here session.phase told)) (spot_of after phase told_after))
-        (way : List ℕ) (passed now_passed : ℕ) (brought : Brought way passed now_passed (told.traffic.taken n) (told_after.traffic.taken n) (told_other.traffic.given n))
-        (written : (node : Node) → IsOf (the_case (Unit {0}) (Unit {0}) (setting_of here.config) read n now (others_at at session here.sessions) frame) node (heard_at heard (spot_of here session.phase told)) → EachFrame (sends (row node n done.answers frame))) where
+        (way : List ℕ) (passed now_passed : ℕ) (brought : Brought way passed now_passed (told.traffic.taken n) (told_after.traffic.taken n) (told_other.traffic.given n)) where
       deeds : List Deed
       deeds = row w.a.node n done.answers frame
 
@@ -269,7 +268,7 @@ module _ (read : Reading) (now : ℕ) (here other after : NodeState) (told told_
           all_heard = frame_heard frame heard came_so taken_then way passed now_passed brought;
           bytes = spoken.bytes ∙ ap (λ (l : List Message). joined (spoken.heard ++ l)) found.1 ∙ ap joined (sym (append_assoc spoken.heard (frame ∷ []) more))
               ∙ ap (λ (l : List Message). joined ((spoken.heard ++ frame ∷ []) ++ l)) (sym way_is);
-          each = subst EachFrame (sym way_is) (subst EachFrame found.1 spoken.each).1;
+          each = subst AreFrames (sym way_is) (subst AreFrames found.1 spoken.each).1;
           ends = spoken.ends;
         };
         there = h.b;
@@ -281,7 +280,7 @@ module _ (read : Reading) (now : ℕ) (here other after : NodeState) (told told_
       was_row : WasRow read now here other after told told_after told_other (taken_from more) x at session phase reader (row w.a.node n done.answers frame) heard
       was_row = record {
         orderly_row = row_orderly w.a.node n done.answers frame;
-        frames = written w.a.node (stands_at heard);
+        frames = done_here.frames;
         given = (came_so.heard_only tt).given;
         traffic = done_here.traffic tt;
         stands_after = done_here.node w.a.node (stands_so heard).stands;
@@ -364,7 +363,7 @@ module _ (read : Reading) (now : ℕ) (here other after : NodeState) (told told_
       end_row : WasRow read now here other after told told_after told_other (world_lost n 0 w) x at session phase reader (row_end w.a.node n now) heard
       end_row = record {
         orderly_row = close_orderly w.a.node.desk now (w.a.node.sessions.phase n);
-        frames = subst EachFrame (sym silent) tt;
+        frames = subst AreFrames (sym silent) tt;
         given = given;
         traffic = end_here.traffic tt;
         stands_after = end_here.node w.a.node (stands_so heard).stands;

@@ -18,7 +18,6 @@ use Rattle.cd_plain.specs.declared.handled.Handled.{Handled}
 use Rattle.cd_plain.specs.declared.handled.Handled.TheVariants as handled
 use Rattle.cd_world.specs.World.{At, World}
 use Rattle.cd_rehearsed.specs.Brought.{Brought, none_counted}
-use Rattle.cd_rehearsed.specs.Carried.{WrittenIn, WrittenBy}
 use Rattle.cd_rehearsed.specs.Led.{leads_none}
 use Rattle.cd_rehearsed.specs.Mirrors.{IsWorldOf, LeadsTo}
 use Rattle.cd_rehearsed.specs.Numbered.{open_at, set_length}
@@ -54,25 +53,23 @@ module _ (read : Reading) (now : ℕ) (here other after : NodeState) (told told_
       abbrev At_number : ℕ → Type 0
       At_number k = (took : TookTurn (Unit {0}) (Unit {0}) (setting_of here.config) read k now (others_at t.at t.session here.sessions) t.ending told.counts told_after.counts t.reader_before t.reader (spot_of here t.session.phase told) (spot_of after t.phase told_after))
           → MayEnd way t.ending → Brought way passed now_passed (told.traffic.taken k) (told_after.traffic.taken k) (told_other.traffic.given k)
-          → WrittenBy (setting_of here.config) read now (others_at t.at t.session here.sessions) t.ending told.counts told_after.counts t.reader_before t.reader (spot_of here t.session.phase told) (spot_of after t.phase told_after) k took
           → LeadsTo x w (IsWorldOf read now after other told_after told_other)
 
       by_ending : (ending : Ending) (frame : Message) (heard : Traffic) → WasHeard (Unit {0}) t.session.sid.number (Some frame) (spot_of here t.session.phase told) heard t.reader_before t.reader
           → (handled : WasHandled (the_case (Unit {0}) (Unit {0}) (setting_of here.config) read t.session.sid.number now (others_at t.at t.session here.sessions) frame) told.counts told_after.counts ending (heard_at heard (spot_of here t.session.phase told)) (spot_of after t.phase told_after))
           → MayEnd way ending → Brought way passed now_passed (told.traffic.taken t.session.sid.number) (told_after.traffic.taken t.session.sid.number) (told_other.traffic.given t.session.sid.number)
-          → WrittenIn (the_case (Unit {0}) (Unit {0}) (setting_of here.config) read t.session.sid.number now (others_at t.at t.session here.sessions) frame) told.counts told_after.counts ending (heard_at heard (spot_of here t.session.phase told)) (spot_of after t.phase told_after) handled
           → LeadsTo x w (IsWorldOf read now after other told_after told_other)
-      by_ending an_ending.Went frame heard came handled may brought written =
-          frame_led read now here other after told told_after told_other w x t.at t.session t.phase t.reader_before t.reader h place frame heard came handled way passed now_passed brought written
-      by_ending an_ending.Lost frame heard came handled may brought written =
+      by_ending an_ending.Went frame heard came handled may brought =
+          frame_led read now here other after told told_after told_other w x t.at t.session t.phase t.reader_before t.reader h place frame heard came handled way passed now_passed brought
+      by_ending an_ending.Lost frame heard came handled may brought =
           absurd (some_came read now here other after told told_after told_other w x t.at t.session t.phase t.reader_before t.reader h place frame heard came
           (handled_taken (the_case (Unit {0}) (Unit {0}) (setting_of here.config) read t.session.sid.number now (others_at t.at t.session here.sessions) frame) told.counts told_after.counts an_ending.Lost
           (heard_at heard (spot_of here t.session.phase told)) (spot_of after t.phase told_after) handled tt) way passed now_passed brought may)
-      by_ending an_ending.Troubled frame heard came handled may brought written = absurd may
+      by_ending an_ending.Troubled frame heard came handled may brought = absurd may
 
       by_turn : At_number t.session.sid.number
-      by_turn (inl took) may brought written = by_ending t.ending took.frame took.heard took.came took.handled may brought written
-      by_turn (inr ended) may brought written = elim ended.1 [
+      by_turn (inl took) may brought = by_ending t.ending took.frame took.heard took.came took.handled may brought
+      by_turn (inr ended) may brought = elim ended.1 [
         | inl end ↦ end_led read now here other after told told_after told_other w x t.at t.session t.phase t.reader_before t.reader h place end.heard (end.came.heard_only tt).given (end.came.heard_only tt).others end.ended
         | inr nothing ↦ end_led read now here other after told told_after told_other w x t.at t.session t.phase t.reader_before t.reader h place told.traffic refl (λ k apart. refl) nothing.ended
       ]
@@ -86,9 +83,8 @@ module _ (read : Reading) (now : ℕ) (here other after : NodeState) (told told_
       may_from (b ∷ way) an_ending.Troubled is = absurd cc
 
       pub turn_led : answer ≡ answer_to way sid → Brought way passed now_passed (told.traffic.taken sid.number) (told_after.traffic.taken sid.number) (told_other.traffic.given sid.number)
-          → WrittenBy (setting_of here.config) read now (others_at t.at t.session here.sessions) t.ending told.counts told_after.counts t.reader_before t.reader (spot_of here t.session.phase told) (spot_of after t.phase told_after) sid.number t.turn
           → LeadsTo x w (IsWorldOf read now after other told_after told_other)
-      turn_led answered brought written = subst (λ (k : ℕ). At_number k) t.is.number by_turn t.turn (may_from way t.ending (sym t.answered ∙ answered)) brought written
+      turn_led answered brought = subst (λ (k : ℕ). At_number k) t.is.number by_turn t.turn (may_from way t.ending (sym t.answered ∙ answered)) brought
 
   pub none_led : (sid : Sid) (answer : Handled) → NoTurn sid answer here after told told_after → LeadsTo x w (IsWorldOf read now after other told_after told_other)
   none_led sid answer t = record {

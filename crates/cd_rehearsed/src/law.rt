@@ -1,27 +1,22 @@
 //! What a drill shows is a world of the rules.
-ghost use Rattle.std.specs.Prelude.{ℕ, List, map, reverse};
+ghost use Rattle.std.specs.Prelude.{ℕ, List};
 ghost use Rattle.cd_script.specs.Script.{Order};
 ghost use Rattle.cd_drill.specs.Course.{Ran};
 ghost use Rattle.cd_drill.specs.Drilled.{WasDrilled};
 ghost use Rattle.cd_drill.specs.declared.bench.Bench.{Bench};
 ghost use Rattle.cd_drill.specs.declared.course.Course.{Course};
-ghost use Rattle.cd_rehearsed.specs.Joined.{AlwaysJoined};
 ghost use Rattle.cd_rehearsed.specs.Rehearsed.{IsRehearsed};
 
 use cd_plain::law_of_choice;
 use cd_reading::law_of_readings;
 
-/// The orders of a script were done, one after another, by two nodes. Their lines numbered their sessions one by one, and each frame that
-/// was sent in a turn was in its form.
-///
-/// Then there are a world at its beginning and events that lead to one with the same two journals and the same files. So
-/// all that is promised of worlds holds of it: both journals are legal, each step whose outcome the other node keeps ended as
-/// that one recorded it, each COPY that ended with 0 landed once, as its statement says, and whole, and the files hold what
-/// their dispositions make of that.
+/// The orders of a script were done, one after another, by two nodes. Then there are a world at its beginning and events that lead to
+/// one with the same two journals and the same files. So all that is promised of worlds holds of it: both journals are legal, each step
+/// whose outcome the other node keeps ended as that one recorded it, each COPY that ended with 0 landed once, as its statement says,
+/// and whole, and the files hold what their dispositions make of that.
 pub fn law_of_drills()
-    ensures world { (orders : List Order) (course : Course) (ran : Ran orders course) → AlwaysJoined orders course ran → IsRehearsed course.pair }
-    ensures drilled { (script report : List ℕ) (bench : Bench) (was : WasDrilled script report bench)
-        → AlwaysJoined (reverse (map (λ line. line.1) was.run.orders)) was.course was.run.ran → IsRehearsed was.course.pair }
+    ensures world { (orders : List Order) (course : Course) → Ran orders course → IsRehearsed course.pair }
+    ensures drilled { (script report : List ℕ) (bench : Bench) (was : WasDrilled script report bench) → IsRehearsed was.course.pair }
 {
     law_of_choice();
     law_of_readings();

@@ -26,7 +26,7 @@ returns-in-Ok-act-clause-done g c =
     (spot c.act.new.registry.entries (g.F.Files.state c.touch.new.files).shelf c.act.new.phase c.act.new.holders (g.L.Lines.traffic c.act.new.lines))
     e.entries
     (λ told. shelf_did (seen_deed c.args.deed) c.touch.new.beat (g.F.Files.state c.args.files.now) (g.F.Files.state c.touch.new.files) (c.in-Ok.ensures.done told))
-    e.phase e.holders e.given
+    e.phase e.holders e.given e.frames
 
 pub returns-in-Ok-act-clause-moments : goal.returns-in-Ok-act-clause-moments
 returns-in-Ok-act-clause-moments g c = λ told files_told node is.

@@ -1,4 +1,5 @@
 use Rattle.std.proofs.Common.{◌≤◌, ℕ, sym, subst, ◌∙◌}
+use Rattle.cd_deeds.proofs.Frames.{frames_next}
 use Rattle.cd_deeds.proofs.Sending.{sendable_here, giving_here, gave_some, gave_next, fell_then, rose_later}
 use Rattle.cd_deeds.proofs.session.send_all.Goals as goal
 
@@ -11,6 +12,7 @@ send-requires-clause-ready g c = sendable_here c.args.frames.now c.loop-frame.fr
 pub loop-frame-preserved : goal.loop-frame-preserved
 loop-frame-preserved g c = let e = c.in-Ok.ensures in record {
   sent = λ told. gave_next c.args.sid.number c.args.frames.now c.loop-frame.frame-index c.frame-item.result (g.L.Lines.traffic c.args.lines.now) (g.L.Lines.traffic c.loop-frame.lines) (g.L.Lines.traffic c.send.new.lines) c.loop-frame-test.true c.frame-item.is (c.loop-frame.invariant.sent told) (e.sent told);
+  form = frames_next c.args.frames.now c.loop-frame.frame-index c.frame-item.result c.loop-frame-test.true c.frame-item.is c.loop-frame.invariant.form e.form;
   last = e.last ∙ c.loop-frame.invariant.last;
   later = fell_then (g.L.Lines.counts c.args.lines.now) (g.L.Lines.counts c.loop-frame.lines) (g.L.Lines.counts c.send.new.lines) c.loop-frame.invariant.later e.later;
   nones = e.nones ∙ c.loop-frame.invariant.nones;
