@@ -8,6 +8,7 @@ use Rattle.cd_drill.specs.declared.course.Course.{Course}
 use Rattle.cd_hearing.specs.declared.heard.Heard.{Heard}
 use Rattle.cd_hearing.specs.declared.heard.Heard.TheVariants as said
 use Rattle.cd_outside.specs.Shelf.{FileMap}
+use Rattle.cd_rehearsed.specs.Rehearsed.{IsRehearsed}
 use Rattle.cd_script.specs.Script.{orders_of}
 use Rattle.cd_shown.specs.Shown.{IsShown}
 use Rattle.cd_shown.specs.declared.file.Shown.{Shown}
@@ -31,12 +32,14 @@ IsRead held read.Missing = held ≡ None
 IsRead held read.Failed = Unit {0}
 IsRead held (read.Text text) = held ≡ Some text
 
--- A script was run, and this is its report; it is the file, where the files tell.
+-- A script was run, and this is its report; it is the file, where the files tell. The two nodes of which it tells are those of a world
+-- of the rules.
 pub record HasReported (files : Type 0) (held : Option (List ℕ)) (report : List ℕ) : Type 0 where
   pub script : List ℕ
   pub held_is : files → held ≡ Some script
   pub course : Course
   pub run : WasRun script report course
+  pub world : IsRehearsed course.pair
 
 -- The first line of a text that asks for nothing begins here; it is the file, where the files tell.
 pub record HasNoScript (files : Type 0) (held : Option (List ℕ)) (at : ℕ) : Type 0 where

@@ -5,8 +5,9 @@ ghost use Rattle.cd_outside.specs.Counts.{Rose};
 ghost use Rattle.cd_shown.specs.declared.file.Shown.TheVariants as shows;
 ghost use Rattle.cd_asking.specs.Asked.{IsRead, IsDrilled};
 
-use cd_drill::{DrillFault, rehearse};
+use cd_drill::DrillFault;
 use cd_outside::Files;
+use cd_rehearsed::rehearse;
 use cd_shown::Shown;
 use cd_types::{Bytes, NoMemory};
 use std::alloc::Global;

@@ -101,7 +101,7 @@ fn run_script(alloc: Global, script: &[u8]) -> Result<Told, DrillFault>
 /// exactly where a line of the script asks for nothing that a line may ask for.
 ///
 /// What each turn does is said by the rules of a node, of one node with what the other one gave it. That the two nodes together are a
-/// world of `cd_world` isn't said.
+/// world of `cd_world` is said by `cd_rehearsed`.
 #[tactic(none)]
 pub fn drill(alloc: Global, script: &[u8], bench: &mut Bench) -> Result<Vec<u8>, DrillFault>
     ensures report { IfOk result (λ report. WasDrilled script.now report.items bench.new) }

@@ -14,6 +14,7 @@ pub mod OthersLed
 pub mod PairsLed
 pub mod Rehearsed
 pub mod RehearsedLaw
+pub mod Reported
 pub mod TurnDone
 pub mod Turns
 pub mod TurnsLed

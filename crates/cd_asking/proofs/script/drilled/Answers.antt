@@ -10,4 +10,5 @@ returns-in-Ok-clause-shown c =
       held_is = λ tells. refl;
       course = told.course;
       run = rw c.new.ensures told.run;
+      world = told.world;
     }
