@@ -1,5 +1,5 @@
 -- Two nodes, and what is on the way between them.
-use Rattle.std.specs.Prelude.{◌≡◌, ◌⊎◌, ℕ, ◌+◌, ◌-◌, List, [], ◌∷◌, ◌++◌, length, min, take, drop, Bool, true, false, not, ◌&&◌, ◌||◌, ◌==◌, nat_lt, slice_get, slice_set, Option, Some, IfSome, if◌then◌else◌}
+use Rattle.std.specs.Prelude.{◌≡◌, ◌⊎◌, ℕ, ◌+◌, ◌-◌, List, [], ◌∷◌, ◌++◌, length, min, take, drop, Bool, true, false, not, ◌&&◌, ◌||◌, ◌==◌, nat_lt, slice_get, slice_set, Option, Some, None, if◌then◌else◌}
 use Rattle.std.specs.Int.{from_be_bytes, w32}
 use Rattle.std.specs.List.{list_all}
 use Rattle.cd_outside.specs.declared.sid.Sid.{Sid}
@@ -159,12 +159,16 @@ abbrev pub last_in : List Session → Option Session
 last_in sessions = slice_get sessions (length sessions - 1)
 
 -- it has the number of all, where there is one
-abbrev pub CountsAll : List Session → Type 0
-CountsAll sessions = IfSome (last_in sessions) (λ last. last.sid.number ≡ length sessions)
+abbrev pub has_number : Option Session → ℕ → Bool
+has_number None n = true
+has_number (Some last) n = last.sid.number == n
+
+abbrev pub counts_all : List Session → Bool
+counts_all sessions = has_number (last_in sessions) (length sessions)
 
 -- so it is at both nodes, where one has one session more
 abbrev pub AreCounted : Bool → Half → Half → Type 0
-AreCounted true a b = CountsAll a.node.sessions × CountsAll b.node.sessions
+AreCounted true a b = (counts_all a.node.sessions ≡ true) × (counts_all b.node.sessions ≡ true)
 AreCounted false a b = Unit {0}
 
 -- A node chose. Where it has one session more, the newest session of each node has the number of all of them.

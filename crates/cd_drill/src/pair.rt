@@ -4,7 +4,7 @@ ghost use Rattle.cd_memory.specs.MemoryLines.{traffic_of};
 ghost use Rattle.cd_drill.specs.AtRest.{IsAtRest, Chose};
 ghost use Rattle.cd_drill.specs.declared.pair.Link.{Link};
 ghost use Rattle.cd_drill.specs.Linking.{choice_answer, link_of, last_link};
-ghost use Rattle.cd_drill.specs.Pairs.{AreAtRest, frame_len, is_open_in, is_open, on_way, waits, CameOf, answer_to, WasBrought, HandledIn, HandledBelow, Accepted, last_in, CountsAll, ChoseAtA, ChoseAtB, ChoseOne, TurnOf, IsNew};
+ghost use Rattle.cd_drill.specs.Pairs.{AreAtRest, frame_len, is_open_in, is_open, on_way, waits, CameOf, answer_to, WasBrought, HandledIn, HandledBelow, Accepted, last_in, counts_all, ChoseAtA, ChoseAtB, ChoseOne, TurnOf, IsNew};
 
 use crate::half::Half;
 use cd_deeds::Fault;
@@ -122,7 +122,7 @@ fn link_of(at_a: &[Session], at_b: &[Session]) -> Option<Link>
 
 /// Whether the last of these sessions, where there is one, has the number of all.
 fn counts_all(sessions: &[Session]) -> bool
-    ensures { result ≡ true → CountsAll sessions.now }
+    ensures { result ≡ counts_all sessions.now }
 {
     match sessions.last() {
         Some(last) => last.sid.number == sessions.len() as u64,
@@ -285,7 +285,7 @@ impl Pair {
         requires { AreAtRest self.old }
         ensures rest { OnOk result (AreAtRest self.new) }
         ensures linked { OnOk result (self.new.links.items ≡ self.old.links.items ++ last_link self.old.a self.old.b) }
-        ensures counted { OnOk result (CountsAll self.old.a.node.sessions × CountsAll self.old.b.node.sessions) }
+        ensures counted { OnOk result ((counts_all self.old.a.node.sessions ≡ true) × (counts_all self.old.b.node.sessions ≡ true)) }
         ensures a { self.new.a ≡ self.old.a }
         ensures b { self.new.b ≡ self.old.b }
     {

@@ -1,7 +1,6 @@
 -- Sessions that are numbered one by one as they came, and their readers at the same places.
-use Rattle.std.proofs.Common.{◌≡◌, ◌⊎◌, inl, inr, ℕ, zero, suc, ◌+◌, ◌-◌, ◌<◌, ◌≤◌, Bool, true, false, cond, eqb, List, [], ◌∷◌, ◌++◌, length, map, Option, Some, get_or, refl, sym, ◌∙◌, ap, subst, arith, length-append}
-use Rattle.std.specs.Prelude.{slice_get, slice_set, not, IfSome}
-use Rattle.std.proofs.Math.Seq.{get_or-append_seam}
+use Rattle.std.proofs.Common.{◌≡◌, ◌⊎◌, inl, inr, ℕ, zero, suc, ◌+◌, ◌<◌, ◌≤◌, Bool, true, false, cond, eqb, List, [], ◌∷◌, ◌++◌, length, map, Option, Some, get_or, refl, sym, ◌∙◌, ap, subst, arith}
+use Rattle.std.specs.Prelude.{slice_get, slice_set, not}
 use Rattle.std.proofs.lemmas.Bool.{cond-true, cond-false, eq-eqb, ne_eqb, eqb-true, and_parts}
 use Rattle.std.proofs.lemmas.List.Quantifiers.{position-Some}
 use Rattle.std.proofs.lemmas.Option.{slice_get-get_or}
@@ -12,7 +11,8 @@ use Rattle.cd_node.specs.declared.session.Session.{Session}
 use Rattle.cd_plain.specs.Law.{number_of}
 use Rattle.cd_plain.specs.NodeState.{is_gone}
 use Rattle.cd_plain.specs.Turned.{in_phase, is_open_as, place_of, others_at}
-use Rattle.cd_drill.specs.Pairs.{last_in, CountsAll}
+use Rattle.cd_drill.specs.Pairs.{has_number, counts_all}
+use Rattle.cd_drill.proofs.Begins.{last_behind}
 
 -- the first has this number, and each other one the next
 abbrev pub AreNumbered : ℕ → List Session → Type 0
@@ -43,13 +43,9 @@ last_number from [] s numbered = omega (arith, numbered.0)
 last_number from (t ∷ sessions) s numbered = omega (arith, last_number (suc from) sessions s numbered.1)
 
 -- the last session has the number of all, where it is said to
-pub last_counted : (all before : List Session) (s : Session) → all ≡ before ++ s ∷ [] → CountsAll all → s.sid.number ≡ length all
+pub last_counted : (all before : List Session) (s : Session) → all ≡ before ++ s ∷ [] → counts_all all ≡ true → s.sid.number ≡ length all
 last_counted all before s is counted =
-    let at : length (before ++ s ∷ []) - 1 ≡ length before = omega (arith, length-append before (s ∷ [])) in
-    let below : length before < length (before ++ s ∷ []) = omega (arith, length-append before (s ∷ [])) in
-    let found : last_in all ≡ Some s =
-    ap last_in is ∙ ap (slice_get (before ++ s ∷ [])) at ∙ slice_get-get_or (before ++ s ∷ []) (length before) s below ∙ ap (λ (t : Session). Some t) (get_or-append_seam before s [] s) in
-    subst (λ (last : Option Session). IfSome last (λ t. t.sid.number ≡ length all)) found counted
+    eqb-true s.sid.number (length all) (ap (λ (last : Option Session). has_number last (length all)) (sym (last_behind all before s is)) ∙ counted)
 
 pub first_numbered : (from : ℕ) (sessions : List Session) (s : Session) → AreNumbered from (sessions ++ s ∷ []) → AreNumbered from sessions
 first_numbered from [] s numbered = tt

@@ -12,7 +12,7 @@ use Rattle.cd_plain.specs.declared.handled.Handled.{Handled}
 use Rattle.cd_plain.specs.declared.handled.Handled.TheVariants as handled
 use Rattle.cd_reading.specs.Read.{canonical_reading}
 use Rattle.cd_drill.specs.AtRest.{told_of, IsSame, Chose, Took}
-use Rattle.cd_drill.specs.Pairs.{Turned, HandledIn, HandledAtB, HandledAtA, on_way, CameOf, with_a, with_b, FollowedBy, has_more, newest, newest_of, CountsAll, AreCounted, ChoseAtA, ChoseAtB, ChoseThere, ChoseBehind, FoundNothing}
+use Rattle.cd_drill.specs.Pairs.{Turned, HandledIn, HandledAtB, HandledAtA, on_way, CameOf, with_a, with_b, FollowedBy, has_more, newest, newest_of, counts_all, AreCounted, ChoseAtA, ChoseAtB, ChoseThere, ChoseBehind, FoundNothing}
 use Rattle.cd_drill.specs.declared.half.Half.{Half}
 use Rattle.cd_drill.specs.declared.pair.Link.{Link}
 use Rattle.cd_drill.specs.declared.pair.Pair.{Pair}
@@ -187,11 +187,11 @@ followed_taken true other other_after new links links_after f = ap (λ (t : Traf
 followed_taken false other other_after new links links_after f = ap taken_in f.0
 
 -- the newest session of the lines has the number of all, where one was made, and where one was taken
-made_newest : (before after : Half) → MadeSession (last_of before.lines) (last_of after.lines) before.node after.node → has_more before after ≡ true → CountsAll after.node.sessions → last_of after.lines ≡ length after.node.sessions
+made_newest : (before after : Half) → MadeSession (last_of before.lines) (last_of after.lines) before.node after.node → has_more before after ≡ true → counts_all after.node.sessions ≡ true → last_of after.lines ≡ length after.node.sessions
 made_newest before after (inl one) more counted = last_counted after.node.sessions before.node.sessions (record { sid = record { number = last_of after.lines }; phase = one.opened.phase }) one.opened.sessions counted
 made_newest before after (inr none) more counted = absurd (omega (arith, ltb-true (length before.node.sessions) (length after.node.sessions) more, ap (λ (l : List Session). length l) none.sessions))
 
-took_newest : (before after : Half) → Took handled.Went before after → CountsAll after.node.sessions → last_of after.lines ≡ length after.node.sessions
+took_newest : (before after : Half) → Took handled.Went before after → counts_all after.node.sessions ≡ true → last_of after.lines ≡ length after.node.sessions
 took_newest before after took counted = by_accepted took.accepted where
   by_accepted : Accepted handled.Went (last_of before.lines) (last_of after.lines) (counts_of before.lines) (counts_of after.lines) before.node after.node → last_of after.lines ≡ length after.node.sessions
   by_accepted (inl session) = last_counted after.node.sessions before.node.sessions (record { sid = record { number = last_of after.lines }; phase = Fresh }) session.sessions counted
