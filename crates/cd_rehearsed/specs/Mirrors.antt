@@ -1,5 +1,5 @@
 -- Two running nodes, and what is on the way between them, as a world of the rules.
-use Rattle.std.specs.Prelude.{◌≡◌, ℕ, suc, ◌++◌, List, length, Bool, true, false, slice_get, Some}
+use Rattle.std.specs.Prelude.{◌≡◌, ℕ, suc, ◌++◌, List, [], length, Bool, true, false, slice_get, Some}
 use Rattle.cd_frames.specs.Message.{Message}
 use Rattle.cd_frames.specs.Reading as streams
 use Rattle.cd_frames.specs.Run.{Run}
