@@ -9,5 +9,5 @@ drilled_since files later held found tells same shows.Missing h = λ told. sym (
 drilled_since files later held found tells same shows.Failed h = tt
 drilled_since files later held found tells same (shows.Long len) h = h
 drilled_since files later held found tells same (shows.Text text) h = h
-drilled_since files later held found tells same (shows.Report report) h = record { script = h.script; held_is = λ told. sym (same told) ∙ h.held_is (tells told); course = h.course; run = h.run }
+drilled_since files later held found tells same (shows.Report report) h = record { script = h.script; held_is = λ told. sym (same told) ∙ h.held_is (tells told); course = h.course; run = h.run; world = h.world }
 drilled_since files later held found tells same (shows.NoScript at) h = record { text = h.text; held_is = λ told. sym (same told) ∙ h.held_is (tells told); first = h.first }
