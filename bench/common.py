@@ -8,8 +8,8 @@ import time
 
 TOP = os.path.join(os.path.dirname(os.path.abspath(__file__)), "..")
 CDNODE = os.path.join(TOP, "crates", "cd_prog", "out", "cd_prog")
-SPEED = os.path.join(TOP, "crates", "cd_speed", "out", "cd_speed")
-TEXTS = os.path.join(TOP, "crates", "cd_texts", "out", "cd_texts")
+SPEED = os.path.join(TOP, "crates", "bench_tokens", "out", "bench_tokens")
+TEXTS = os.path.join(TOP, "crates", "test_parser", "out", "test_parser")
 INIT = b"init name=ALPHA home=17;\n"
 SUBMIT = b"submit P1 PROCESS SNODE=BETA S1 COPY FROM (FILE=a.txt) TO (FILE=b.txt) PEND;\n"
 

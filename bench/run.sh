@@ -1,7 +1,7 @@
 #!/bin/sh
 # All measurements, one after the other, in a fresh folder below the current one, which is removed afterwards. The disk is
 # that of the current folder. Build the programs first: `rt run < /dev/null` in crates/cd_prog, and `rt run -- 1 < stdin` in
-# crates/cd_speed, and `rt run < stdin` in crates/cd_texts.
+# crates/bench_tokens, and `rt run < stdin` in crates/test_parser.
 set -e
 here=$(cd "$(dirname "$0")" && pwd)
 place=$(mktemp -d "$PWD/bench.XXXXXX")

@@ -7,11 +7,11 @@ use Rattle.std.proofs.Math.ListN.{get_or-append, drop_of_length-le}
 use Rattle.std.proofs.lemmas.List.Elements.{filter-append}
 use Rattle.cd_entries.specs.declared.entry.Entry.{Entry}
 use Rattle.cd_entries.specs.declared.entry.Entry.TheVariants as entry
-use Rattle.cd_status.specs.Processes.{submitted, is_live, live_numbers}
-use Rattle.cd_legal.specs.Steps.{Reading}
-use Rattle.cd_legal.specs.Legal.{is_legal}
-use Rattle.cd_legal.specs.LegalLaw.{legal_parts}
-use Rattle.cd_legal.specs.NumbersLaw.{number_is_next}
+use Rattle.cd_rules.specs.Processes.{submitted, is_live, live_numbers}
+use Rattle.cd_rules.specs.Steps.{Reading}
+use Rattle.cd_rules.specs.Legal.{is_legal}
+use Rattle.cd_rules.proofs.LegalLaw.{legal_parts}
+use Rattle.cd_rules.proofs.NumbersLaw.{number_is_next}
 use Rattle.cd_book.specs.Numbers.{upto, AreNumbered}
 use Rattle.cd_book.proofs.StillOpen.{filter_twice}
 

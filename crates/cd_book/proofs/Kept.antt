@@ -9,11 +9,11 @@ use Rattle.cd_types.specs.declared.key.Key.{Key}
 use Rattle.cd_entries.specs.declared.entry.Entry.{Entry}
 use Rattle.cd_entries.specs.declared.entry.Entry.TheVariants as entry
 use Rattle.cd_ast.specs.declared.process.Process.{Process}
-use Rattle.cd_status.specs.Processes.{submission, submitted, live_numbers}
-use Rattle.cd_legal.specs.Steps.{Reading, process_of}
-use Rattle.cd_legal.specs.Legal.{is_filed, is_new_origin, allowed, is_legal}
-use Rattle.cd_legal.specs.LegalLaw.{legal_parts, follows}
-use Rattle.cd_legal.specs.NumbersLaw.{number_is_next}
+use Rattle.cd_rules.specs.Processes.{submission, submitted, live_numbers}
+use Rattle.cd_rules.specs.Steps.{Reading, process_of}
+use Rattle.cd_rules.specs.Legal.{is_filed, is_new_origin, allowed, is_legal}
+use Rattle.cd_rules.proofs.LegalLaw.{legal_parts, follows}
+use Rattle.cd_rules.proofs.NumbersLaw.{number_is_next}
 use Rattle.cd_book.specs.Book.{IsRead, is_submission, listed, processes_of, AreKept}
 
 -- Lists.

@@ -11,8 +11,8 @@ use Rattle.cd_types.specs.declared.key.Key.{Key}
 use Rattle.cd_types.specs.declared.rows.Receiving.{Receiving}
 use Rattle.cd_entries.specs.declared.entry.Entry.{Entry}
 use Rattle.cd_entries.specs.declared.entry.Entry.TheVariants as entry
-use Rattle.cd_status.specs.Keys.{same_key}
-use Rattle.cd_status.specs.Openings.{openings, without, on_file}
+use Rattle.cd_rules.specs.Keys.{same_key}
+use Rattle.cd_rules.specs.Openings.{openings, without, on_file}
 use Rattle.cd_book.specs.Opening.{closes, closed_by}
 
 -- Tests and filters.

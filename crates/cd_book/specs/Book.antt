@@ -3,8 +3,8 @@ use Rattle.std.specs.Prelude.{◌≡◌, List, [], ◌∷◌, ◌++◌, Bool, tr
 use Rattle.cd_entries.specs.declared.entry.Entry.{Entry}
 use Rattle.cd_entries.specs.declared.entry.Entry.TheVariants as entry
 use Rattle.cd_ast.specs.declared.process.Process.{Process}
-use Rattle.cd_legal.specs.Legal.{is_legal}
-use Rattle.cd_legal.specs.Steps.{Reading}
+use Rattle.cd_rules.specs.Legal.{is_legal}
+use Rattle.cd_rules.specs.Steps.{Reading}
 
 -- the entries, the newest first, and whether one more fits without memory
 pub record BookState : Type 0 where

@@ -1,7 +1,7 @@
 -- The numbers of Processes.
 use Rattle.std.specs.Prelude.{◌≡◌, ℕ, zero, suc, ◌≤◌, List, [], ◌∷◌, ◌++◌, filter}
 use Rattle.cd_entries.specs.declared.entry.Entry.{Entry}
-use Rattle.cd_status.specs.Processes.{submitted, is_live, live_numbers}
+use Rattle.cd_rules.specs.Processes.{submitted, is_live, live_numbers}
 
 -- 1, 2, 3 and so on
 unfoldable pub upto : ℕ → List ℕ

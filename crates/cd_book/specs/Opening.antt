@@ -5,7 +5,7 @@ use Rattle.cd_types.specs.declared.key.Key.{Key}
 use Rattle.cd_types.specs.declared.rows.Receiving.{Receiving}
 use Rattle.cd_entries.specs.declared.entry.Entry.{Entry}
 use Rattle.cd_entries.specs.declared.entry.Entry.TheVariants as entry
-use Rattle.cd_status.specs.Keys.{same_key}
+use Rattle.cd_rules.specs.Keys.{same_key}
 
 -- an entry behind which nothing before it is being received for the step
 abbrev pub closes : Key → Entry → Bool

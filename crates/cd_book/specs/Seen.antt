@@ -3,8 +3,8 @@ use Rattle.std.specs.Prelude.{ℕ, Option, Some, None}
 use Rattle.std.specs.Borrow.{Bor}
 use Rattle.cd_entries.specs.declared.entry.Entry.{Entry}
 use Rattle.cd_entries.specs.declared.entry.Entry.TheVariants as entry
-use Rattle.cd_status.specs.Status as seen
-use Rattle.cd_status.specs.Processes.{Submission as Told}
+use Rattle.cd_rules.specs.Status as seen
+use Rattle.cd_rules.specs.Processes.{Submission as Told}
 use Rattle.cd_book.specs.declared.status.Status.{Status}
 use Rattle.cd_book.specs.declared.status.Status.TheVariants.{Fresh, Started, Open, Done}
 use Rattle.cd_book.specs.declared.submission.Submission.{Submission}

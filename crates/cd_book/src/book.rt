@@ -1,6 +1,6 @@
 //! A book: the entries of a journal, held in memory.
 ghost use Rattle.std.specs.Prelude.{◌≡◌, ◌<◌, ◌∷◌, ◌++◌, [], length, reverse, slice_get, vec_len, vec_capacity, Some, true, OnOk, if◌then◌else◌};
-ghost use Rattle.cd_legal.specs.Legal.{allowed};
+ghost use Rattle.cd_rules.specs.Legal.{allowed};
 ghost use Rattle.cd_book.specs.Book.{IsRead, is_submission, listed};
 
 use crate::texts::Texts;

@@ -1,7 +1,7 @@
 //! The codes of the steps of a Process that ended.
 ghost use Rattle.std.specs.Prelude.{◌≡◌, ◌∷◌, List, reverse};
 ghost use Rattle.cd_entries.specs.declared.entry.Entry.{Entry};
-ghost use Rattle.cd_status.specs.Processes.{ended};
+ghost use Rattle.cd_rules.specs.Processes.{ended};
 ghost use Rattle.cd_ast.specs.Walk.{code_at};
 ghost use Rattle.cd_book.specs.Codes.{or_code};
 
@@ -24,7 +24,7 @@ fn or_code(before: Option<Rc>, place: usize, own: u16, rc: Rc) -> Option<Rc>
     }
 }
 
-#[tactic(auto, using(crate::proofs::Codes::code_more), unfolding(cd_status::specs::Processes::ended))]
+#[tactic(auto, using(crate::proofs::Codes::code_more), unfolding(cd_rules::specs::Processes::ended))]
 fn code_after(entry: &Entry, number: ProcNo, place: usize, before: Option<Rc>) -> Option<Rc>
     ensures { (journal : List Entry) → before ≡ code_at (ended journal number) place → result ≡ code_at (ended (entry.now ∷ journal) number) place }
 {

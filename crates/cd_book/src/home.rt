@@ -1,13 +1,13 @@
 //! The node's name and its home.
 ghost use Rattle.std.specs.Prelude.{◌≡◌, ◌∷◌, List, reverse};
 ghost use Rattle.cd_entries.specs.declared.entry.Entry.{Entry};
-ghost use Rattle.cd_status.specs.Processes.{own_home, is_own};
+ghost use Rattle.cd_rules.specs.Processes.{own_home, is_own};
 
 use crate::same::same_bytes;
 use cd_entries::Entry;
 use cd_types::{Key, NodeName};
 
-#[tactic(auto, unfolding(cd_status::specs::Processes::own_home))]
+#[tactic(auto, unfolding(cd_rules::specs::Processes::own_home))]
 fn home_after(entry: &Entry, before: Option<(NodeName, u64)>) -> Option<(NodeName, u64)>
     ensures { (journal : List Entry) → before ≡ own_home journal → result ≡ own_home (entry.now ∷ journal) }
 {

@@ -1,7 +1,7 @@
 //! The files that are being received.
 ghost use Rattle.std.specs.Prelude.{◌≡◌, ◌+◌, ◌<◌, ◌++◌, ◌&&◌, ◌==◌, not, drop, length, reverse, option_map};
 ghost use Rattle.std.specs.Str.{bytes_eq};
-ghost use Rattle.cd_status.specs.Openings.{openings, open_on, is_in_use, is_receiving_for};
+ghost use Rattle.cd_rules.specs.Openings.{openings, open_on, is_in_use, is_receiving_for};
 ghost use Rattle.cd_book.specs.Opening.{listed, closes, closed_by};
 
 use crate::same::{same_bytes, same_key};

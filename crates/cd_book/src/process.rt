@@ -1,8 +1,8 @@
 //! The questions to a Process, by its number.
 ghost use Rattle.std.specs.Prelude.{◌≡◌, ◌+◌, ◌≤◌, ◌<◌, ◌∷◌, ℕ, List, length, reverse, option_map};
 ghost use Rattle.cd_entries.specs.declared.entry.Entry.{Entry};
-ghost use Rattle.cd_status.specs.Processes.{submission, submitted, is_origin, made_for, is_live, live_numbers, latest, moment_of, later_of, is_forgotten};
-ghost use Rattle.cd_legal.specs.Steps.{runs_itself};
+ghost use Rattle.cd_rules.specs.Processes.{submission, submitted, is_origin, made_for, is_live, live_numbers, latest, moment_of, later_of, is_forgotten};
+ghost use Rattle.cd_rules.specs.Steps.{runs_itself};
 ghost use Rattle.cd_book.specs.Numbers.{AreNumbered};
 ghost use Rattle.cd_book.specs.Seen.{seen_submission, told_by, told_in};
 
@@ -26,7 +26,7 @@ fn told_by(entry: &Entry) -> Option<Submission<'_>>
     }
 }
 
-#[tactic(auto, unfolding(cd_status::specs::Processes::submission))]
+#[tactic(auto, unfolding(cd_rules::specs::Processes::submission))]
 fn submission_after<'a>(
     entry: &'a Entry,
     number: ProcNo,
@@ -78,7 +78,7 @@ pub(crate) fn runs_itself(entries: &[Entry], number: ProcNo) -> bool
     }
 }
 
-#[tactic(auto, unfolding(cd_status::specs::Processes::submitted))]
+#[tactic(auto, unfolding(cd_rules::specs::Processes::submitted))]
 fn submitted_after(entry: &Entry, before: u32) -> u32
     requires { before < 4294967295 }
     ensures submitted { (journal : List Entry) → before ≡ submitted journal → result ≡ submitted (entry.now ∷ journal) }
@@ -110,7 +110,7 @@ fn is_origin(key: &Key, origin: &Option<Key>) -> bool
     }
 }
 
-#[tactic(auto, unfolding(cd_status::specs::Processes::made_for))]
+#[tactic(auto, unfolding(cd_rules::specs::Processes::made_for))]
 fn made_after(entry: &Entry, key: &Key, before: Option<ProcNo>) -> Option<ProcNo>
     ensures { (journal : List Entry) → before ≡ made_for journal key.now → result ≡ made_for (entry.now ∷ journal) key.now }
 {
@@ -136,7 +136,7 @@ pub(crate) fn made_for(entries: &[Entry], key: &Key) -> Option<ProcNo>
     found
 }
 
-#[tactic(auto, unfolding(cd_status::specs::Processes::is_live))]
+#[tactic(auto, unfolding(cd_rules::specs::Processes::is_live))]
 fn live_after(entry: &Entry, number: ProcNo, before: bool) -> bool
     ensures { (journal : List Entry) → before ≡ is_live journal number → result ≡ is_live (entry.now ∷ journal) number }
 {
@@ -182,7 +182,7 @@ fn later_of(moment: Option<Moment>, before: u64) -> u64
     }
 }
 
-#[tactic(auto, unfolding(cd_status::specs::Processes::latest))]
+#[tactic(auto, unfolding(cd_rules::specs::Processes::latest))]
 fn latest_after(entry: &Entry, before: u64) -> u64
     ensures { (journal : List Entry) → before ≡ latest journal → result ≡ latest (entry.now ∷ journal) }
 {
@@ -199,7 +199,7 @@ pub(crate) fn latest(entries: &[Entry]) -> u64
     found
 }
 
-#[tactic(auto, unfolding(cd_status::specs::Processes::is_forgotten))]
+#[tactic(auto, unfolding(cd_rules::specs::Processes::is_forgotten))]
 fn forgotten_after(entry: &Entry, name: &NodeName, home: u64, number: ProcNo, before: bool) -> bool
     ensures { (journal : List Entry) → before ≡ is_forgotten journal name.now home number → result ≡ is_forgotten (entry.now ∷ journal) name.now home number }
 {

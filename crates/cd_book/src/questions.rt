@@ -1,10 +1,10 @@
 //! The questions of the rules to a book. None takes memory.
 ghost use Rattle.std.specs.Prelude.{◌≡◌, length, option_map, slice_get};
-ghost use Rattle.cd_status.specs.Openings.{open_on, is_in_use, is_receiving_for};
-ghost use Rattle.cd_status.specs.Processes.{own_home, is_own, submission, submitted, made_for, is_live, live_numbers, latest, is_forgotten, is_over};
-ghost use Rattle.cd_status.specs.Queue.{placing, next_due};
-ghost use Rattle.cd_status.specs.Status.{status, outcome, mark, starts, last_receiving};
-ghost use Rattle.cd_legal.specs.Steps.{process_of, runs_itself, next_place, what_at};
+ghost use Rattle.cd_rules.specs.Openings.{open_on, is_in_use, is_receiving_for};
+ghost use Rattle.cd_rules.specs.Processes.{own_home, is_own, submission, submitted, made_for, is_live, live_numbers, latest, is_forgotten, is_over};
+ghost use Rattle.cd_rules.specs.Queue.{placing, next_due};
+ghost use Rattle.cd_rules.specs.Status.{status, outcome, mark, starts, last_receiving};
+ghost use Rattle.cd_rules.specs.Steps.{process_of, runs_itself, next_place, what_at};
 ghost use Rattle.cd_book.specs.Seen.{seen_status, seen_submission};
 
 use crate::book::Book;

@@ -2,8 +2,8 @@
 ghost use Rattle.std.specs.Prelude.{◌≡◌, ◌<◌, ◌∷◌, ◌==◌, ℕ, List, filter, reverse, length};
 ghost use Rattle.std.specs.List.{list_any, filter_map};
 ghost use Rattle.cd_entries.specs.declared.entry.Entry.{Entry};
-ghost use Rattle.cd_status.specs.Processes.{is_live};
-ghost use Rattle.cd_status.specs.Queue.{stands, by_start, by_hold, by_retain, first_placing, placing, queue_of, queue_at, runs_in, is_due, goes_before, the_earlier, choice, row_made, row_of, next_due};
+ghost use Rattle.cd_rules.specs.Processes.{is_live};
+ghost use Rattle.cd_rules.specs.Queue.{stands, by_start, by_hold, by_retain, first_placing, placing, queue_of, queue_at, runs_in, is_due, goes_before, the_earlier, choice, row_made, row_of, next_due};
 ghost use Rattle.cd_book.specs.Numbers.{AreNumbered};
 
 use crate::process::{is_live, number_behind, submission, submitted};
@@ -62,7 +62,7 @@ fn first_placing(card: &Filed, moment: Moment) -> Placing
     }
 }
 
-#[tactic(auto, unfolding(cd_status::specs::Queue::placing))]
+#[tactic(auto, unfolding(cd_rules::specs::Queue::placing))]
 fn placing_after(entry: &Entry, number: ProcNo, before: Option<Placing>) -> Option<Placing>
     ensures { (journal : List Entry) → before ≡ placing journal number → result ≡ placing (entry.now ∷ journal) number }
 {

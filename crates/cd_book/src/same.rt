@@ -1,7 +1,7 @@
 //! Keys and names, compared.
 ghost use Rattle.std.specs.Prelude.{◌≡◌};
 ghost use Rattle.std.specs.Str.{bytes_eq};
-ghost use Rattle.cd_status.specs.Keys.{same_key};
+ghost use Rattle.cd_rules.specs.Keys.{same_key};
 
 use cd_types::Key;
 
@@ -11,7 +11,7 @@ pub(crate) fn same_bytes(a: &[u8], b: &[u8]) -> bool
     a == b
 }
 
-#[tactic(auto, unfolding(cd_status::specs::Keys::same_key))]
+#[tactic(auto, unfolding(cd_rules::specs::Keys::same_key))]
 pub(crate) fn same_key(a: &Key, b: &Key) -> bool
     ensures { result ≡ same_key a.now b.now }
 {

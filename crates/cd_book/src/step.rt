@@ -1,8 +1,8 @@
 //! The questions to a step.
 ghost use Rattle.std.specs.Prelude.{◌≡◌, ◌+◌, ◌≤◌, ◌<◌, ◌∷◌, List, length, reverse, option_map};
 ghost use Rattle.cd_entries.specs.declared.entry.Entry.{Entry};
-ghost use Rattle.cd_status.specs.Keys.{is_of};
-ghost use Rattle.cd_status.specs.Status.{dropped_outcome, once_more, after, status, outcome, outcome_at, mark, mark_at, last_receiving, receiving_at, starts, starts_at};
+ghost use Rattle.cd_rules.specs.Keys.{is_of};
+ghost use Rattle.cd_rules.specs.Status.{dropped_outcome, once_more, after, status, outcome, outcome_at, mark, mark_at, last_receiving, receiving_at, starts, starts_at};
 ghost use Rattle.cd_book.specs.Seen.{seen_status, times_of};
 
 use crate::same::same_key;
@@ -66,7 +66,7 @@ fn after<'a>(entry: &'a Entry, before: Status<'a>) -> Status<'a>
     }
 }
 
-#[tactic(auto, unfolding(cd_status::specs::Status::status))]
+#[tactic(auto, unfolding(cd_rules::specs::Status::status))]
 fn status_after<'a>(entry: &'a Entry, key: &Key, before: Status<'a>) -> Status<'a>
     requires { times_of before < 4294967295 }
     ensures status { (journal : List Entry) → seen_status before.entry ≡ status journal key.now → seen_status result ≡ status (entry.now ∷ journal) key.now }
@@ -100,7 +100,7 @@ fn outcome_at(entry: &Entry, before: Option<Outcomes>) -> Option<Outcomes>
     }
 }
 
-#[tactic(auto, unfolding(cd_status::specs::Status::outcome))]
+#[tactic(auto, unfolding(cd_rules::specs::Status::outcome))]
 fn outcome_after(entry: &Entry, key: &Key, before: Option<Outcomes>) -> Option<Outcomes>
     ensures { (journal : List Entry) → before ≡ outcome journal key.now → result ≡ outcome (entry.now ∷ journal) key.now }
 {
@@ -131,7 +131,7 @@ fn mark_at(entry: &Entry, before: u64) -> u64
     }
 }
 
-#[tactic(auto, unfolding(cd_status::specs::Status::mark))]
+#[tactic(auto, unfolding(cd_rules::specs::Status::mark))]
 fn mark_after(entry: &Entry, key: &Key, before: u64) -> u64
     ensures { (journal : List Entry) → before ≡ mark journal key.now → result ≡ mark (entry.now ∷ journal) key.now }
 {
@@ -163,7 +163,7 @@ fn starts_at(entry: &Entry, before: u32) -> u32
     }
 }
 
-#[tactic(auto, unfolding(cd_status::specs::Status::starts))]
+#[tactic(auto, unfolding(cd_rules::specs::Status::starts))]
 fn starts_after(entry: &Entry, key: &Key, before: u32) -> u32
     requires { before < 4294967295 }
     ensures starts { (journal : List Entry) → before ≡ starts journal key.now → result ≡ starts (entry.now ∷ journal) key.now }
@@ -196,7 +196,7 @@ fn receiving_at<'a>(entry: &'a Entry, before: Option<&'a Receiving>) -> Option<&
     }
 }
 
-#[tactic(auto, unfolding(cd_status::specs::Status::last_receiving))]
+#[tactic(auto, unfolding(cd_rules::specs::Status::last_receiving))]
 fn receiving_after<'a>(
     entry: &'a Entry,
     key: &Key,

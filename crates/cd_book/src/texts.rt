@@ -1,5 +1,5 @@
 ghost use Rattle.std.specs.Prelude.{◌≡◌, IfOk};
-ghost use Rattle.cd_legal.specs.Steps.{Reading};
+ghost use Rattle.cd_rules.specs.Steps.{Reading};
 
 use cd_ast::Process;
 use cd_types::NoMemory;

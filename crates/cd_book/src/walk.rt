@@ -2,7 +2,7 @@
 //! most 1,024.
 ghost use Rattle.std.specs.Prelude.{◌≡◌, ◌+◌, ◌<◌, ◌≤◌, length, reverse, IfSome};
 ghost use Rattle.cd_ast.specs.Walk.{is_action, is_else, is_eif, depth_behind, eif_from, else_from, eif_of, else_of, has_label, action_from, action_of, relates, holds, behind, behind_else, label_from, go, pending, pending_from, GoesOn};
-ghost use Rattle.cd_status.specs.Processes.{ended};
+ghost use Rattle.cd_rules.specs.Processes.{ended};
 
 use crate::ended::code_at;
 use crate::same::same_bytes;

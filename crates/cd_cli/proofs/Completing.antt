@@ -14,13 +14,13 @@ use Rattle.cd_turn.specs.Legal.{IsLegal}
 use Rattle.cd_turn.specs.Status.{last_line}
 use Rattle.cd_commands.specs.declared.command.Command.{Command}
 use Rattle.cd_commands.specs.declared.command.Command.TheVariants as command
-use Rattle.cd_hearing.specs.declared.heard.Heard.{Heard}
-use Rattle.cd_hearing.specs.declared.heard.Heard.TheVariants as heard
-use Rattle.cd_shown.specs.Shown.{show, IsShown}
-use Rattle.cd_shown.specs.declared.file.Shown.{Shown}
-use Rattle.cd_shown.specs.declared.file.Shown.TheVariants as shows
-use Rattle.cd_shown.specs.declared.file.Shown.TheVariants.{Failed}
-use Rattle.cd_asking.specs.Asked.{Shows}
+use Rattle.cd_commands.specs.declared.heard.Heard.{Heard}
+use Rattle.cd_commands.specs.declared.heard.Heard.TheVariants as heard
+use Rattle.cd_submission.specs.Shown.{show, IsShown}
+use Rattle.cd_submission.specs.declared.file.Shown.{Shown}
+use Rattle.cd_submission.specs.declared.file.Shown.TheVariants as shows
+use Rattle.cd_submission.specs.declared.file.Shown.TheVariants.{Failed}
+use Rattle.cd_drill_command.specs.Asked.{Shows}
 use Rattle.cd_outside.specs.Shelf.{FileMap}
 use Rattle.cd_turn.specs.Order.{drilled, order_of, file_of, heard_in, asked_of}
 use Rattle.cd_turn.specs.Turn.{Turn, order_in, added, after_turn, after_turns, replies}

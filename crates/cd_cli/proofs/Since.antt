@@ -2,11 +2,11 @@
 use Rattle.std.proofs.Common.{◌≡◌, ℕ, ◌≤◌, List, Option, Some, None, refl, ap, subst, sym, ◌∙◌}
 use Rattle.cd_outside.specs.Counts.{Rose}
 use Rattle.cd_outside.specs.Shelf.{FileMap}
-use Rattle.cd_shown.specs.Shown.{IsShown}
-use Rattle.cd_shown.specs.declared.file.Shown.{Shown}
-use Rattle.cd_asking.specs.Asked.{script_of, ShownBy, Shows}
-use Rattle.cd_asking.proofs.Since.{drilled_since}
-use Rattle.cd_hearing.specs.declared.heard.Heard.{Heard}
+use Rattle.cd_submission.specs.Shown.{IsShown}
+use Rattle.cd_submission.specs.declared.file.Shown.{Shown}
+use Rattle.cd_drill_command.specs.Asked.{script_of, ShownBy, Shows}
+use Rattle.cd_drill_command.proofs.Since.{drilled_since}
+use Rattle.cd_commands.specs.declared.heard.Heard.{Heard}
 use Rattle.cd_turn.specs.Order.{asked_of, file_of, heard_in}
 use Rattle.cd_turn.specs.Turn.{Turn}
 use Rattle.cd_cli.specs.Told.{GoesBy}

@@ -16,12 +16,12 @@ use Rattle.cd_ast.specs.declared.process.Process.{Process}
 use Rattle.cd_commands.specs.declared.command.Command.{Command}
 use Rattle.cd_commands.specs.declared.command.Command.TheVariants as command
 use Rattle.cd_commands.specs.declared.command.Options.{Options}
-use Rattle.cd_hearing.specs.declared.heard.Heard.{Heard}
-use Rattle.cd_hearing.specs.declared.heard.Heard.TheVariants as heard
-use Rattle.cd_shown.specs.Reading.{process_in}
-use Rattle.cd_shown.specs.declared.file.Shown.{Shown}
-use Rattle.cd_shown.specs.declared.file.Shown.TheVariants as shows
-use Rattle.cd_shown.specs.declared.reading.Unread.{Unread}
+use Rattle.cd_commands.specs.declared.heard.Heard.{Heard}
+use Rattle.cd_commands.specs.declared.heard.Heard.TheVariants as heard
+use Rattle.cd_submission.specs.Reading.{process_in}
+use Rattle.cd_submission.specs.declared.file.Shown.{Shown}
+use Rattle.cd_submission.specs.declared.file.Shown.TheVariants as shows
+use Rattle.cd_submission.specs.declared.reading.Unread.{Unread}
 use Rattle.cd_turn.specs.Reply.{reply_text, is_refused}
 use Rattle.cd_turn.specs.Turn.{Turn, order_in, answer, partner_answer, refusal_for, named_answer, added, after_turn, after_turns, replies}
 use Rattle.cd_turn.specs.declared.reply.Reply.{Reply}

@@ -3,7 +3,7 @@ use Rattle.std.specs.Prelude.{◌≡◌, ◌⊎◌, ℕ, List, ◌++◌, map, Al
 use Rattle.cd_entries.specs.declared.entry.Entry.{Entry}
 use Rattle.cd_input.specs.Input.{Event}
 use Rattle.cd_outside.specs.Shelf.{FileMap}
-use Rattle.cd_shown.specs.Shown.{show}
+use Rattle.cd_submission.specs.Shown.{show}
 use Rattle.cd_turn.specs.Order.{asked_in}
 use Rattle.cd_turn.specs.Turn.{Turn, replies}
 use Rattle.cd_turn.specs.declared.reply.Reply.{Reply}

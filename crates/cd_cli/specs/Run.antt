@@ -11,8 +11,8 @@ use Rattle.cd_turn.specs.Home.{HomeState, IsHome, StandsFor, IsJournal, HasKept}
 use Rattle.cd_turn.specs.Legal.{IsLegal, Extends}
 use Rattle.cd_commands.specs.declared.command.Command.{Command}
 use Rattle.cd_commands.specs.declared.command.Command.TheVariants as command
-use Rattle.cd_hearing.specs.declared.heard.Heard.{Heard}
-use Rattle.cd_hearing.specs.declared.heard.Heard.TheVariants as heard
+use Rattle.cd_commands.specs.declared.heard.Heard.{Heard}
+use Rattle.cd_commands.specs.declared.heard.Heard.TheVariants as heard
 use Rattle.cd_turn.specs.Order.{heard_in}
 use Rattle.cd_turn.specs.Reply.{reply_text, is_refused}
 use Rattle.cd_turn.specs.Status.{last_line}

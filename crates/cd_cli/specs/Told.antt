@@ -1,8 +1,8 @@
 -- What the devices tell a turn.
 use Rattle.std.specs.Prelude.{◌≡◌, ℕ}
 use Rattle.cd_outside.specs.Shelf.{FileMap}
-use Rattle.cd_asking.specs.Asked.{Shows}
-use Rattle.cd_shown.specs.declared.file.Shown.TheVariants.{Failed}
+use Rattle.cd_drill_command.specs.Asked.{Shows}
+use Rattle.cd_submission.specs.declared.file.Shown.TheVariants.{Failed}
 use Rattle.cd_turn.specs.Order.{heard_in}
 use Rattle.cd_turn.specs.Turn.{Turn}
 

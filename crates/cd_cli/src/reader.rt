@@ -41,8 +41,8 @@ impl Reader {
 
     /// The next byte, or none at the input's end. The input is read only where nothing is left of the last piece.
     pub(crate) fn next<S: Source>(&mut self, input: &mut S) -> Result<Option<u8>, Failed>
-        ensures byte { S.told → IfOk result (λ byte. IsNextByte (self.old ++ S.remaining input.old) byte (self.new ++ S.remaining input.new)) }
-        ensures failed { S.told → OnErr result (self.new ++ S.remaining input.new ≡ self.old ++ S.remaining input.old) }
+        ensures byte { S.observable → IfOk result (λ byte. IsNextByte (self.old ++ S.remaining input.old) byte (self.new ++ S.remaining input.new)) }
+        ensures failed { S.observable → OnErr result (self.new ++ S.remaining input.new ≡ self.old ++ S.remaining input.old) }
         ensures none { OnErr result (self.new ≡ []) }
         ensures unread { self.old ≢ [] → input.new ≡ input.old }
         ensures later { S.faults input.old ≤ S.faults input.new }
@@ -71,10 +71,10 @@ impl Reader {
     // Reads the next piece.
     fn fill<S: Source>(&mut self, input: &mut S) -> Result<(), Failed>
         requires { self.old ≡ [] }
-        ensures piece { S.told → OnOk result (S.remaining input.old ≡ self.new ++ S.remaining input.new) }
-        ensures end { S.told → OnOk result (self.new ≡ [] → S.remaining input.old ≡ []) }
+        ensures piece { S.observable → OnOk result (S.remaining input.old ≡ self.new ++ S.remaining input.new) }
+        ensures end { S.observable → OnOk result (self.new ≡ [] → S.remaining input.old ≡ []) }
         ensures none { OnErr result (self.new ≡ []) }
-        ensures same { S.told → OnErr result (S.remaining input.new ≡ S.remaining input.old) }
+        ensures same { S.observable → OnErr result (S.remaining input.new ≡ S.remaining input.old) }
         ensures later { S.faults input.old ≤ S.faults input.new }
         ensures cause { OnErr result (Rose (S.faults input.old) (S.faults input.new)) }
     {

@@ -18,7 +18,7 @@ ghost use Rattle.cd_cli.specs.Stretch.{standing, HaveTurned, Halted, Went, Finis
 use crate::flow::{Flow, Last, flow_of};
 use crate::reader::Reader;
 use crate::telling::tell_last;
-use cd_asking::show_for;
+use cd_drill_command::show_for;
 use cd_input::{Found, Scanner};
 use cd_journal::JournalFault;
 use cd_outside::{Beat, Clock, Disk, Files, Sink, Source};
@@ -42,22 +42,22 @@ fn found_turn<P: Disk, F: Files, C: Clock, O: Sink>(
 ) -> Result<Flow, Status>
     requires legal { IsLegal home.old.entries }
     requires sound { home.old.journal.sound ≡ true }
-    requires home { P.told → IsHome home.old (P.state journal.old) }
-    requires order { P.told → last_of (P.state journal.old).calls ≤ beat.old }
-    ensures went { IfOk result (λ flow. (was : Bool) → Went P.told O.told (GoesBy C.told F.told (C.moment clock.old) (F.state files.old).shelf.seen (Rose (F.faults files.old) (F.faults files.new))) (standing home.old.entries (O.taken out.old) was)
+    requires home { P.observable → IsHome home.old (P.state journal.old) }
+    requires order { P.observable → last_of (P.state journal.old).calls ≤ beat.old }
+    ensures went { IfOk result (λ flow. (was : Bool) → Went P.observable O.observable (GoesBy C.observable F.observable (C.moment clock.old) (F.state files.old).shelf.seen (Rose (F.faults files.old) (F.faults files.new))) (standing home.old.entries (O.taken out.old) was)
         (event_of found.now ∷ []) home.new.entries (O.taken out.new) flow) }
-    ensures halted { IfErr result (λ status. (was : Bool) → Halted ((P.state journal.old).seen ≡ []) P.told O.told (GoesBy C.told F.told (C.moment clock.old) (F.state files.old).shelf.seen (Rose (F.faults files.old) (F.faults files.new))) (standing home.old.entries (O.taken out.old) was)
+    ensures halted { IfErr result (λ status. (was : Bool) → Halted ((P.state journal.old).seen ≡ []) P.observable O.observable (GoesBy C.observable F.observable (C.moment clock.old) (F.state files.old).shelf.seen (Rose (F.faults files.old) (F.faults files.new))) (standing home.old.entries (O.taken out.old) was)
         (event_of found.now ∷ []) (P.state journal.new) (O.taken out.new) status) }
     ensures legal { OnOk result (IsLegal home.new.entries) }
     ensures sound { OnOk result (home.new.journal.sound ≡ true) }
-    ensures goes { P.told → OnOk result (GoneOn home.old.entries (P.state journal.old) beat.old home.new (P.state journal.new) beat.new) }
-    ensures moments { P.told → Moments (LeftAt (P.state journal.old)) (LeftAt (P.state journal.new)) beat.old
-        (TurnsMayLeave ((P.state journal.old).seen ≡ []) (Unit {0}) (GoesBy C.told F.told (C.moment clock.old) (F.state files.old).shelf.seen (Rose (F.faults files.old) (F.faults files.new))) home.old.entries (event_of found.now ∷ [])) }
-    ensures reason { IfErr result (EndedBy (Rose (P.faults journal.old) (P.faults journal.new)) (λ _. P.told → ⊥) ⊥ (Rose (O.faults out.old) (O.faults out.new))) }
-    ensures clock { C.told → C.moment clock.new ≡ C.moment clock.old }
-    ensures files { F.told → F.state files.new ≡ F.state files.old }
+    ensures goes { P.observable → OnOk result (GoneOn home.old.entries (P.state journal.old) beat.old home.new (P.state journal.new) beat.new) }
+    ensures moments { P.observable → Moments (LeftAt (P.state journal.old)) (LeftAt (P.state journal.new)) beat.old
+        (TurnsMayLeave ((P.state journal.old).seen ≡ []) (Unit {0}) (GoesBy C.observable F.observable (C.moment clock.old) (F.state files.old).shelf.seen (Rose (F.faults files.old) (F.faults files.new))) home.old.entries (event_of found.now ∷ [])) }
+    ensures reason { IfErr result (EndedBy (Rose (P.faults journal.old) (P.faults journal.new)) (λ _. P.observable → ⊥) ⊥ (Rose (O.faults out.old) (O.faults out.new))) }
+    ensures clock { C.observable → C.moment clock.new ≡ C.moment clock.old }
+    ensures files { F.observable → F.state files.new ≡ F.state files.old }
     ensures later_files { F.faults files.old ≤ F.faults files.new }
-    ensures order { P.told → last_of (P.state journal.new).calls ≤ beat.new }
+    ensures order { P.observable → last_of (P.state journal.new).calls ≤ beat.new }
     ensures beat { beat.old ≤ beat.new }
     ensures later { P.faults journal.old ≤ P.faults journal.new }
     ensures later_out { O.faults out.old ≤ O.faults out.new }
@@ -97,23 +97,23 @@ fn byte_turn<P: Disk, F: Files, C: Clock, O: Sink>(
 ) -> Result<Flow, Status>
     requires legal { IsLegal home.old.entries }
     requires sound { home.old.journal.sound ≡ true }
-    requires home { P.told → IsHome home.old (P.state journal.old) }
-    requires order { P.told → last_of (P.state journal.old).calls ≤ beat.old }
-    ensures went { IfOk result (λ flow. Went P.told O.told (GoesBy C.told F.told (C.moment clock.old) (F.state files.old).shelf.seen (Rose (F.faults files.old) (F.faults files.new))) (standing home.old.entries (O.taken out.old) (was_refused last))
+    requires home { P.observable → IsHome home.old (P.state journal.old) }
+    requires order { P.observable → last_of (P.state journal.old).calls ≤ beat.old }
+    ensures went { IfOk result (λ flow. Went P.observable O.observable (GoesBy C.observable F.observable (C.moment clock.old) (F.state files.old).shelf.seen (Rose (F.faults files.old) (F.faults files.new))) (standing home.old.entries (O.taken out.old) (was_refused last))
         (scan_after scanner.old byte).1 home.new.entries (O.taken out.new) flow) }
-    ensures halted { IfErr result (λ status. Halted ((P.state journal.old).seen ≡ []) P.told O.told (GoesBy C.told F.told (C.moment clock.old) (F.state files.old).shelf.seen (Rose (F.faults files.old) (F.faults files.new))) (standing home.old.entries (O.taken out.old) (was_refused last))
+    ensures halted { IfErr result (λ status. Halted ((P.state journal.old).seen ≡ []) P.observable O.observable (GoesBy C.observable F.observable (C.moment clock.old) (F.state files.old).shelf.seen (Rose (F.faults files.old) (F.faults files.new))) (standing home.old.entries (O.taken out.old) (was_refused last))
         (scan_after scanner.old byte).1 (P.state journal.new) (O.taken out.new) status) }
     ensures scanner { OnOk result (scanner.new ≡ (scan_after scanner.old byte).0) }
     ensures legal { OnOk result (IsLegal home.new.entries) }
     ensures sound { OnOk result (home.new.journal.sound ≡ true) }
-    ensures goes { P.told → OnOk result (GoneOn home.old.entries (P.state journal.old) beat.old home.new (P.state journal.new) beat.new) }
-    ensures moments { P.told → Moments (LeftAt (P.state journal.old)) (LeftAt (P.state journal.new)) beat.old
-        (TurnsMayLeave ((P.state journal.old).seen ≡ []) (Unit {0}) (GoesBy C.told F.told (C.moment clock.old) (F.state files.old).shelf.seen (Rose (F.faults files.old) (F.faults files.new))) home.old.entries (scan_after scanner.old byte).1) }
-    ensures reason { IfErr result (EndedBy (Rose (P.faults journal.old) (P.faults journal.new)) (λ _. P.told → ⊥) ⊥ (Rose (O.faults out.old) (O.faults out.new))) }
-    ensures clock { C.told → C.moment clock.new ≡ C.moment clock.old }
-    ensures files { F.told → F.state files.new ≡ F.state files.old }
+    ensures goes { P.observable → OnOk result (GoneOn home.old.entries (P.state journal.old) beat.old home.new (P.state journal.new) beat.new) }
+    ensures moments { P.observable → Moments (LeftAt (P.state journal.old)) (LeftAt (P.state journal.new)) beat.old
+        (TurnsMayLeave ((P.state journal.old).seen ≡ []) (Unit {0}) (GoesBy C.observable F.observable (C.moment clock.old) (F.state files.old).shelf.seen (Rose (F.faults files.old) (F.faults files.new))) home.old.entries (scan_after scanner.old byte).1) }
+    ensures reason { IfErr result (EndedBy (Rose (P.faults journal.old) (P.faults journal.new)) (λ _. P.observable → ⊥) ⊥ (Rose (O.faults out.old) (O.faults out.new))) }
+    ensures clock { C.observable → C.moment clock.new ≡ C.moment clock.old }
+    ensures files { F.observable → F.state files.new ≡ F.state files.old }
     ensures later_files { F.faults files.old ≤ F.faults files.new }
-    ensures order { P.told → last_of (P.state journal.new).calls ≤ beat.new }
+    ensures order { P.observable → last_of (P.state journal.new).calls ≤ beat.new }
     ensures beat { beat.old ≤ beat.new }
     ensures later { P.faults journal.old ≤ P.faults journal.new }
     ensures later_out { O.faults out.old ≤ O.faults out.new }
@@ -143,18 +143,18 @@ fn finish<P: Disk, F: Files, C: Clock, O: Sink>(
 ) -> Status
     requires legal { IsLegal home.old.entries }
     requires sound { home.old.journal.sound ≡ true }
-    requires home { P.told → IsHome home.old (P.state journal.old) }
-    requires order { P.told → last_of (P.state journal.old).calls ≤ beat.old }
+    requires home { P.observable → IsHome home.old (P.state journal.old) }
+    requires order { P.observable → last_of (P.state journal.old).calls ≤ beat.old }
     requires none { EndedBy ⊥ (λ _. ⊥) ⊥ ⊥ if_none }
-    ensures finishes { (was : Bool) → Finishes ((P.state journal.old).seen ≡ []) P.told O.told (GoesBy C.told F.told (C.moment clock.old) (F.state files.old).shelf.seen (Rose (F.faults files.old) (F.faults files.new))) (standing home.old.entries (O.taken out.old) was) (P.state journal.old)
+    ensures finishes { (was : Bool) → Finishes ((P.state journal.old).seen ≡ []) P.observable O.observable (GoesBy C.observable F.observable (C.moment clock.old) (F.state files.old).shelf.seen (Rose (F.faults files.old) (F.faults files.new))) (standing home.old.entries (O.taken out.old) was) (P.state journal.old)
         (events_of found) if_none home.new.entries (P.state journal.new) (O.taken out.new) result }
     ensures legal { IfBetween result (IsLegal home.new.entries) }
-    ensures goes { P.told → IfBetween result (GoneOn home.old.entries (P.state journal.old) beat.old home.new (P.state journal.new) beat.new) }
-    ensures moments { P.told → Moments (LeftAt (P.state journal.old)) (LeftAt (P.state journal.new)) beat.old
-        (TurnsMayLeave ((P.state journal.old).seen ≡ []) (Unit {0}) (GoesBy C.told F.told (C.moment clock.old) (F.state files.old).shelf.seen (Rose (F.faults files.old) (F.faults files.new))) home.old.entries (events_of found)) }
-    ensures reason { EndedBy (Rose (P.faults journal.old) (P.faults journal.new)) (λ _. P.told → ⊥) ⊥ (Rose (O.faults out.old) (O.faults out.new)) result }
-    ensures order { P.told → last_of (P.state journal.new).calls ≤ beat.new }
-    ensures files { F.told → F.state files.new ≡ F.state files.old }
+    ensures goes { P.observable → IfBetween result (GoneOn home.old.entries (P.state journal.old) beat.old home.new (P.state journal.new) beat.new) }
+    ensures moments { P.observable → Moments (LeftAt (P.state journal.old)) (LeftAt (P.state journal.new)) beat.old
+        (TurnsMayLeave ((P.state journal.old).seen ≡ []) (Unit {0}) (GoesBy C.observable F.observable (C.moment clock.old) (F.state files.old).shelf.seen (Rose (F.faults files.old) (F.faults files.new))) home.old.entries (events_of found)) }
+    ensures reason { EndedBy (Rose (P.faults journal.old) (P.faults journal.new)) (λ _. P.observable → ⊥) ⊥ (Rose (O.faults out.old) (O.faults out.new)) result }
+    ensures order { P.observable → last_of (P.state journal.new).calls ≤ beat.new }
+    ensures files { F.observable → F.state files.new ≡ F.state files.old }
     ensures later_files { F.faults files.old ≤ F.faults files.new }
     ensures beat { beat.old ≤ beat.new }
     ensures later { P.faults journal.old ≤ P.faults journal.new }
@@ -182,15 +182,15 @@ fn serve<P: Disk, F: Files, C: Clock, S: Source, O: Sink>(
 ) -> Status
     requires legal { IsLegal home.old.entries }
     requires sound { home.old.journal.sound ≡ true }
-    requires home { P.told → IsHome home.old (P.state journal.old) }
-    requires order { P.told → last_of (P.state journal.old).calls ≤ beat.old }
-    ensures ran { Ran ((P.state journal.old).seen ≡ []) P.told S.told O.told (GoesBy C.told F.told (C.moment clock.old) (F.state files.old).shelf.seen (Rose (F.faults files.old) (F.faults files.new))) home.old.entries (O.taken out.old) (S.remaining input.old) (S.remaining input.new)
+    requires home { P.observable → IsHome home.old (P.state journal.old) }
+    requires order { P.observable → last_of (P.state journal.old).calls ≤ beat.old }
+    ensures ran { Ran ((P.state journal.old).seen ≡ []) P.observable S.observable O.observable (GoesBy C.observable F.observable (C.moment clock.old) (F.state files.old).shelf.seen (Rose (F.faults files.old) (F.faults files.new))) home.old.entries (O.taken out.old) (S.remaining input.old) (S.remaining input.new)
         (P.state journal.new) (O.taken out.new) result }
-    ensures moments { P.told → Moments (LeftAt (P.state journal.old)) (LeftAt (P.state journal.new)) beat.old
-        (TurnsMayLeave ((P.state journal.old).seen ≡ []) S.told (GoesBy C.told F.told (C.moment clock.old) (F.state files.old).shelf.seen (Rose (F.faults files.old) (F.faults files.new))) home.old.entries (run_events (S.remaining input.old))) }
-    ensures reason { EndedBy (Rose (P.faults journal.old) (P.faults journal.new)) (λ _. P.told → ⊥) (Rose (S.faults input.old) (S.faults input.new)) (Rose (O.faults out.old) (O.faults out.new)) result }
-    ensures order { P.told → last_of (P.state journal.new).calls ≤ beat.new }
-    ensures files { F.told → F.state files.new ≡ F.state files.old }
+    ensures moments { P.observable → Moments (LeftAt (P.state journal.old)) (LeftAt (P.state journal.new)) beat.old
+        (TurnsMayLeave ((P.state journal.old).seen ≡ []) S.observable (GoesBy C.observable F.observable (C.moment clock.old) (F.state files.old).shelf.seen (Rose (F.faults files.old) (F.faults files.new))) home.old.entries (run_events (S.remaining input.old))) }
+    ensures reason { EndedBy (Rose (P.faults journal.old) (P.faults journal.new)) (λ _. P.observable → ⊥) (Rose (S.faults input.old) (S.faults input.new)) (Rose (O.faults out.old) (O.faults out.new)) result }
+    ensures order { P.observable → last_of (P.state journal.new).calls ≤ beat.new }
+    ensures files { F.observable → F.state files.new ≡ F.state files.old }
     ensures later_files { F.faults files.old ≤ F.faults files.new }
     ensures beat { beat.old ≤ beat.new }
     ensures later { P.faults journal.old ≤ P.faults journal.new }
@@ -272,12 +272,12 @@ fn run<P: Disk, F: Files, C: Clock, S: Source, O: Sink>(
     out: &mut O,
     beat: &mut Beat,
 ) -> Status
-    requires { P.told → last_of (P.state journal.old).calls ≤ beat.old }
-    ensures came { Came P.told S.told O.told (GoesBy C.told F.told (C.moment clock.old) (F.state files.old).shelf.seen (Rose (F.faults files.old) (F.faults files.new))) (P.state journal.old) (P.state journal.new) (S.remaining input.old) (S.remaining input.new) (O.taken out.old) (O.taken out.new) result }
-    ensures moments { P.told → Moments (LeftAt (P.state journal.old)) (LeftAt (P.state journal.new)) beat.old (RunMayLeave S.told (GoesBy C.told F.told (C.moment clock.old) (F.state files.old).shelf.seen (Rose (F.faults files.old) (F.faults files.new))) (S.remaining input.old) (P.state journal.old)) }
-    ensures reason { EndedBy (Rose (P.faults journal.old) (P.faults journal.new)) (λ at. P.told → IsUnfit (P.state journal.old).seen at) (Rose (S.faults input.old) (S.faults input.new)) (Rose (O.faults out.old) (O.faults out.new)) result }
-    ensures order { P.told → last_of (P.state journal.new).calls ≤ beat.new }
-    ensures files { F.told → F.state files.new ≡ F.state files.old }
+    requires { P.observable → last_of (P.state journal.old).calls ≤ beat.old }
+    ensures came { Came P.observable S.observable O.observable (GoesBy C.observable F.observable (C.moment clock.old) (F.state files.old).shelf.seen (Rose (F.faults files.old) (F.faults files.new))) (P.state journal.old) (P.state journal.new) (S.remaining input.old) (S.remaining input.new) (O.taken out.old) (O.taken out.new) result }
+    ensures moments { P.observable → Moments (LeftAt (P.state journal.old)) (LeftAt (P.state journal.new)) beat.old (RunMayLeave S.observable (GoesBy C.observable F.observable (C.moment clock.old) (F.state files.old).shelf.seen (Rose (F.faults files.old) (F.faults files.new))) (S.remaining input.old) (P.state journal.old)) }
+    ensures reason { EndedBy (Rose (P.faults journal.old) (P.faults journal.new)) (λ at. P.observable → IsUnfit (P.state journal.old).seen at) (Rose (S.faults input.old) (S.faults input.new)) (Rose (O.faults out.old) (O.faults out.new)) result }
+    ensures order { P.observable → last_of (P.state journal.new).calls ≤ beat.new }
+    ensures files { F.observable → F.state files.new ≡ F.state files.old }
     ensures later_files { F.faults files.old ≤ F.faults files.new }
     ensures beat { beat.old ≤ beat.new }
     ensures later { P.faults journal.old ≤ P.faults journal.new }
@@ -310,27 +310,27 @@ pub fn run_node<P: Disk, F: Files, C: Clock, S: Source, O: Sink>(
     out: &mut O,
     beat: &mut Beat,
 ) -> Status
-    requires { P.told → last_of (P.state journal.old).calls ≤ beat.old }
+    requires { P.observable → last_of (P.state journal.old).calls ≤ beat.old }
     // With words it does nothing.
     ensures usage { 0 < length words.now → (result ≡ Status.Usage) × (journal.new ≡ journal.old) × (files.new ≡ files.old) × (clock.new ≡ clock.old) × (input.new ≡ input.old) × (beat.new ≡ beat.old) }
-    ensures usage_line { 0 < length words.now → O.told → TookLine (Rose (O.faults out.old) (O.faults out.new)) (O.taken out.old) (last_line Status.Usage) (O.taken out.new) }
+    ensures usage_line { 0 < length words.now → O.observable → TookLine (Rose (O.faults out.old) (O.faults out.new)) (O.taken out.old) (last_line Status.Usage) (O.taken out.new) }
     // What it did, and how far it came.
-    ensures served { length words.now ≡ 0 → Served P.told S.told O.told (Rose (O.faults out.old) (O.faults out.new)) (GoesBy C.told F.told (C.moment clock.old) (F.state files.old).shelf.seen (Rose (F.faults files.old) (F.faults files.new)))
+    ensures served { length words.now ≡ 0 → Served P.observable S.observable O.observable (Rose (O.faults out.old) (O.faults out.new)) (GoesBy C.observable F.observable (C.moment clock.old) (F.state files.old).shelf.seen (Rose (F.faults files.old) (F.faults files.new)))
         (P.state journal.old) (P.state journal.new) (S.remaining input.old) (S.remaining input.new) (O.taken out.old) (O.taken out.new) result }
     // On a journal of a legal list, which may have no bytes, it does all of an input that isn't longer than what is read at most,
     // where each entry fits and no device fails. A drill adds none.
-    ensures complete { length words.now ≡ 0 → P.told → F.told → C.told → S.told → O.told → (entries : List Entry) → StandsFor (P.state journal.old).seen entries → IsLegal entries
+    ensures complete { length words.now ≡ 0 → P.observable → F.observable → C.observable → S.observable → O.observable → (entries : List Entry) → StandsFor (P.state journal.old).seen entries → IsLegal entries
         → length (S.remaining input.old) ≤ most_input → EachFits entries (turns_at (C.moment clock.old) (F.state files.old).shelf.seen (run_events (S.remaining input.old)))
         → (Rose (P.faults journal.old) (P.faults journal.new) → ⊥) → (Rose (F.faults files.old) (F.faults files.new) → ⊥) → (Rose (S.faults input.old) (S.faults input.new) → ⊥) → (Rose (O.faults out.old) (O.faults out.new) → ⊥)
         → Completes (C.moment clock.old) (F.state files.old).shelf.seen entries (S.remaining input.old) (O.taken out.old) (O.taken out.new) result }
     // On other bytes it tells the first wrong place.
-    ensures unfit { length words.now ≡ 0 → P.told → (IsFit (P.state journal.old).seen → ⊥) → TurnsAway (IsUnfit (P.state journal.old).seen) (Rose (P.faults journal.old) (P.faults journal.new)) result }
+    ensures unfit { length words.now ≡ 0 → P.observable → (IsFit (P.state journal.old).seen → ⊥) → TurnsAway (IsUnfit (P.state journal.old).seen) (Rose (P.faults journal.old) (P.faults journal.new)) result }
     // A fault of a device has its cause in this call, and so has a journal that isn't one.
-    ensures reason { length words.now ≡ 0 → EndedBy (Rose (P.faults journal.old) (P.faults journal.new)) (λ at. P.told → IsUnfit (P.state journal.old).seen at) (Rose (S.faults input.old) (S.faults input.new)) (Rose (O.faults out.old) (O.faults out.new)) result }
+    ensures reason { length words.now ≡ 0 → EndedBy (Rose (P.faults journal.old) (P.faults journal.new)) (λ at. P.observable → IsUnfit (P.state journal.old).seen at) (Rose (S.faults input.old) (S.faults input.new)) (Rose (O.faults out.old) (O.faults out.new)) result }
     // What a crash may leave, at each moment of the call.
-    ensures moments { P.told → Moments (LeftAt (P.state journal.old)) (LeftAt (P.state journal.new)) beat.old (RunMayLeave S.told (GoesBy C.told F.told (C.moment clock.old) (F.state files.old).shelf.seen (Rose (F.faults files.old) (F.faults files.new))) (S.remaining input.old) (P.state journal.old)) }
-    ensures order { P.told → last_of (P.state journal.new).calls ≤ beat.new }
-    ensures files { F.told → F.state files.new ≡ F.state files.old }
+    ensures moments { P.observable → Moments (LeftAt (P.state journal.old)) (LeftAt (P.state journal.new)) beat.old (RunMayLeave S.observable (GoesBy C.observable F.observable (C.moment clock.old) (F.state files.old).shelf.seen (Rose (F.faults files.old) (F.faults files.new))) (S.remaining input.old) (P.state journal.old)) }
+    ensures order { P.observable → last_of (P.state journal.new).calls ≤ beat.new }
+    ensures files { F.observable → F.state files.new ≡ F.state files.old }
     ensures beat { beat.old ≤ beat.new }
 {
     if !words.is_empty() {

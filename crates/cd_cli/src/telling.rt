@@ -12,8 +12,8 @@ use itoa::Buffer;
 
 // Writes a name and a number, in a line.
 fn write_numbered<O: Sink>(name: &[u8], number: u64, out: &mut O) -> Result<(), Failed>
-    ensures ok { O.told → OnOk result (O.taken out.new ≡ O.taken out.old ++ (name.now ++ (decimal number ++ 10 ∷ []))) }
-    ensures front { O.told → OnErr result (TookFront (O.taken out.old) (name.now ++ (decimal number ++ 10 ∷ [])) (O.taken out.new)) }
+    ensures ok { O.observable → OnOk result (O.taken out.new ≡ O.taken out.old ++ (name.now ++ (decimal number ++ 10 ∷ []))) }
+    ensures front { O.observable → OnErr result (TookFront (O.taken out.old) (name.now ++ (decimal number ++ 10 ∷ [])) (O.taken out.new)) }
     ensures later { O.faults out.old ≤ O.faults out.new }
     ensures cause { OnErr result (Rose (O.faults out.old) (O.faults out.new)) }
 {
@@ -27,8 +27,8 @@ fn write_numbered<O: Sink>(name: &[u8], number: u64, out: &mut O) -> Result<(), 
 
 // Writes the line of the status.
 fn write_line<O: Sink>(status: Status, out: &mut O) -> Result<(), Failed>
-    ensures ok { O.told → OnOk result (O.taken out.new ≡ O.taken out.old ++ last_line status) }
-    ensures front { O.told → OnErr result (TookFront (O.taken out.old) (last_line status) (O.taken out.new)) }
+    ensures ok { O.observable → OnOk result (O.taken out.new ≡ O.taken out.old ++ last_line status) }
+    ensures front { O.observable → OnErr result (TookFront (O.taken out.old) (last_line status) (O.taken out.new)) }
     ensures later { O.faults out.old ≤ O.faults out.new }
     ensures cause { OnErr result (Rose (O.faults out.old) (O.faults out.new)) }
 {
@@ -46,7 +46,7 @@ fn write_line<O: Sink>(status: Status, out: &mut O) -> Result<(), Failed>
 
 /// Writes the line that ends a run, which takes no memory. Where that fails, the status stands.
 pub(crate) fn tell_last<O: Sink>(status: Status, out: &mut O)
-    ensures taken { O.told → TookLine (Rose (O.faults out.old) (O.faults out.new)) (O.taken out.old) (last_line status) (O.taken out.new) }
+    ensures taken { O.observable → TookLine (Rose (O.faults out.old) (O.faults out.new)) (O.taken out.old) (last_line status) (O.taken out.new) }
     ensures later { O.faults out.old ≤ O.faults out.new }
 {
     let _ = write_line(status, out);

@@ -9,3 +9,8 @@ pub mod Complete
 pub mod Sound
 pub mod Submissions
 pub mod Texts
+mod Firsts
+mod Converse
+mod Plain
+mod Resolved
+mod HeardTold

@@ -7,3 +7,5 @@ pub mod Commands
 pub mod Told
 pub mod Peeks
 pub mod Grammar
+pub mod Texts
+pub mod Heard

@@ -14,7 +14,7 @@ use crate::order::{Order, read_order};
 use crate::seen::{lead, seen};
 use crate::{Command, CommandFault};
 use cd_ast::{FaultName, Process};
-use cd_machine::law_of_resolved_texts;
+use cd_automaton::law_of_resolved_texts;
 use cd_parser::{ParseFault, parse};
 use cd_types::{Retain, Start, Symbols};
 use std::alloc::Global;

@@ -3,11 +3,11 @@ use Rattle.std.proofs.Common.{◌≡◌, ◌≤◌, ℕ, List, [], true, None, r
 use Rattle.cd_outside.specs.Disk.{DiskState, last_of}
 use Rattle.cd_outside.specs.Files.{FilesState, files_last_of, files_at_first}
 use Rattle.cd_outside.specs.Lines.{Traffic}
-use Rattle.cd_legal.specs.Legal.{is_legal}
-use Rattle.cd_status.specs.Processes.{latest}
-use Rattle.cd_deeds.specs.Registry.{RegistryState, IsRegistry}
-use Rattle.cd_parts.specs.declared.config.Config.{Config}
-use Rattle.cd_reading.specs.Read.{canonical_reading}
+use Rattle.cd_rules.specs.Legal.{is_legal}
+use Rattle.cd_rules.specs.Processes.{latest}
+use Rattle.cd_effects.specs.Registry.{RegistryState, IsRegistry}
+use Rattle.cd_session_rules.specs.declared.config.Config.{Config}
+use Rattle.cd_canonical.specs.Read.{canonical_reading}
 use Rattle.cd_plain.specs.NodeState.{NodeState, IsReady}
 
 legal_first : is_legal canonical_reading [] ≡ true

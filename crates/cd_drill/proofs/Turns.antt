@@ -3,8 +3,8 @@ use Rattle.std.proofs.Common.{◌≡◌, ◌<◌, ℕ, ◌+◌, length, take, Bo
 use Rattle.std.specs.Prelude.{slice_get}
 use Rattle.std.proofs.lemmas.Option.{slice_get-get_or}
 use Rattle.cd_outside.specs.declared.sid.Sid.{Sid}
-use Rattle.cd_drill.specs.declared.pair.Link.{Link}
-use Rattle.cd_drill.specs.declared.pair.Pair.{Pair}
+use Rattle.cd_drill.specs.declared.test_pair.Link.{Link}
+use Rattle.cd_drill.specs.declared.test_pair.TestPair.{TestPair}
 use Rattle.cd_plain.specs.declared.handled.Handled.TheVariants.{Idle}
 use Rattle.cd_drill.specs.Linking.{choice_answer}
 use Rattle.cd_drill.specs.Pairs.{is_idle, none_waits, HandledIn, HandledOne, ChoseAtA, ChoseAtB, ChoseOne}
@@ -17,7 +17,7 @@ abbrev no_link : Link
 no_link = record { at_a = no_sid; at_b = no_sid; of_a = 0; of_b = 0 }
 
 -- the session at a place, and what was done about it
-module _ (before mid after : Pair) (at : ℕ) (there : Bool) (same : mid ≡ before) (below : at < length before.links.items)
+module _ (before mid after : TestPair) (at : ℕ) (there : Bool) (same : mid ≡ before) (below : at < length before.links.items)
     (done : (link : Link) → slice_get mid.links.items at ≡ Some link → HandledIn at link there mid after) where
   abbrev link_there : Link
   link_there = get_or before.links.items at no_link
@@ -26,10 +26,10 @@ module _ (before mid after : Pair) (at : ℕ) (there : Bool) (same : mid ≡ bef
   stands = slice_get-get_or before.links.items at no_link below
 
   done_there : HandledIn at link_there there before after
-  done_there = subst (λ (m : Pair). (link : Link) → slice_get m.links.items at ≡ Some link → HandledIn at link there m after) same done link_there stands
+  done_there = subst (λ (m : TestPair). (link : Link) → slice_get m.links.items at ≡ Some link → HandledIn at link there m after) same done link_there stands
 
 -- something waited in it, and nothing in those before it
-pub handled_one : (before mid after : Pair) (at : ℕ) (there : Bool) → mid ≡ before → at < length before.links.items
+pub handled_one : (before mid after : TestPair) (at : ℕ) (there : Bool) → mid ≡ before → at < length before.links.items
     → none_waits before.a before.b (take at before.links.items) ≡ true
     → ((link : Link) → slice_get mid.links.items at ≡ Some link → HandledIn at link there mid after)
     → there ≡ true → HandledOne before after
@@ -42,13 +42,13 @@ handled_one before mid after at there same below first done is = record {
 }
 
 -- nothing waited in it
-pub none_there : (before mid after : Pair) (at : ℕ) (there : Bool) → mid ≡ before → at < length before.links.items
+pub none_there : (before mid after : TestPair) (at : ℕ) (there : Bool) → mid ≡ before → at < length before.links.items
     → ((link : Link) → slice_get mid.links.items at ≡ Some link → HandledIn at link there mid after)
     → there ≡ false → after ≡ before
 none_there before mid after at there same below done is =
     (subst (λ (t : Bool). HandledIn at (link_there before mid after at there same below done) t before after) is (done_there before mid after at there same below done)).1
 
-pub none_below : (before mid after : Pair) (at : ℕ) (there : Bool) → mid ≡ before → at < length before.links.items
+pub none_below : (before mid after : TestPair) (at : ℕ) (there : Bool) → mid ≡ before → at < length before.links.items
     → none_waits before.a before.b (take at before.links.items) ≡ true
     → ((link : Link) → slice_get mid.links.items at ≡ Some link → HandledIn at link there mid after)
     → there ≡ false → none_waits before.a before.b (take (at + 1) before.links.items) ≡ true
@@ -57,6 +57,6 @@ none_below before mid after at there same below first done is =
     (subst (λ (t : Bool). HandledIn at (link_there before mid after at there same below done) t before after) is (done_there before mid after at there same below done)).0
 
 -- A had nothing to choose, and then B had, or had nothing either
-pub chose_behind : (before between after : Pair) (there : Bool) → ChoseAtA Idle before between → ChoseAtB (choice_answer there) between after → ChoseOne there before after
+pub chose_behind : (before between after : TestPair) (there : Bool) → ChoseAtA Idle before between → ChoseAtB (choice_answer there) between after → ChoseOne there before after
 chose_behind before between after true idle chose = inr (record { between = between; idle = idle; chose = chose })
 chose_behind before between after false idle chose = record { between = between; idle = idle; still = chose }

@@ -2,9 +2,9 @@
 use Rattle.std.proofs.Common.{◌≡◌, ℕ, List, Ok, sym, ap, subst, ◌∙◌}
 use Rattle.std.specs.Prelude.{map, reverse}
 use Rattle.std.proofs.lemmas.Simd.{map-map}
-use Rattle.cd_script.specs.Script.{Order, orders_of}
-use Rattle.cd_script.specs.Seen.{seen_line, seen_order}
-use Rattle.cd_script.specs.declared.order.Numbered.{Numbered}
+use Rattle.cd_drill_script.specs.Script.{Order, orders_of}
+use Rattle.cd_drill_script.specs.Seen.{seen_line, seen_order}
+use Rattle.cd_drill_script.specs.declared.order.Numbered.{Numbered}
 use Rattle.cd_drill.specs.Course.{Ran}
 use Rattle.cd_drill.specs.Drilled.{WasRun}
 use Rattle.cd_drill.specs.Kept.{is_reserved}

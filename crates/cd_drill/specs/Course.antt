@@ -1,24 +1,24 @@
 -- What a drill does: the lines of its script, one after another.
 use Rattle.std.specs.Prelude.{◌≡◌, ◌⊎◌, ◌<◌, ℕ, zero, suc, ◌+◌, ◌%◌, List, [], ◌∷◌, ◌++◌, min, map, codes}
 use Rattle.std.specs.List.{range_with_len}
-use Rattle.cd_script.specs.Script.{Order, Text, Fill, Do, Turn}
-use Rattle.cd_script.specs.declared.order.Party.{Party}
-use Rattle.cd_script.specs.declared.order.Party.TheVariants.{A, B}
+use Rattle.cd_drill_script.specs.Script.{Order, Text, Fill, Do, Turn}
+use Rattle.cd_drill_script.specs.declared.order.Party.{Party}
+use Rattle.cd_drill_script.specs.declared.order.Party.TheVariants.{A, B}
 use Rattle.cd_drill.specs.AtRest.{WasPut}
 use Rattle.cd_drill.specs.Pairs.{Turned, FoundNothing, IsNew}
 use Rattle.cd_drill.specs.Replies.{reply_line}
 use Rattle.cd_drill.specs.Commanded.{IsReplyTo}
 use Rattle.cd_drill.specs.declared.course.Course.{Course}
-use Rattle.cd_drill.specs.declared.half.Half.{Half}
-use Rattle.cd_drill.specs.declared.pair.Pair.{Pair}
+use Rattle.cd_drill.specs.declared.test_node.TestNode.{TestNode}
+use Rattle.cd_drill.specs.declared.test_pair.TestPair.{TestPair}
 use Rattle.cd_operator.specs.declared.reply.Reply.{Reply}
 
 -- the node of a party; the other node and the sessions are as they were
-abbrev pub half_of : Party → Pair → Half
+abbrev pub half_of : Party → TestPair → TestNode
 half_of A pair = pair.a
 half_of B pair = pair.b
 
-abbrev pub OtherStays : Party → Pair → Pair → Type 0
+abbrev pub OtherStays : Party → TestPair → TestPair → Type 0
 OtherStays A before after = (after.b ≡ before.b) × (after.links ≡ before.links)
 OtherStays B before after = (after.a ≡ before.a) × (after.links ≡ before.links)
 
@@ -46,17 +46,17 @@ pub record Replied (party : Party) (text : List ℕ) (before after : Course) : T
   pub turns : after.turns ≡ before.turns
 
 -- so many turns did something, one after another
-pub data MadeTurns (first : Pair) : ℕ → Pair → Type 0 where
+pub data MadeTurns (first : TestPair) : ℕ → TestPair → Type 0 where
   none : MadeTurns first zero first
-  more : {n : ℕ} {before after : Pair} → MadeTurns first n before → Turned before after → MadeTurns first (suc n) after
+  more : {n : ℕ} {before after : TestPair} → MadeTurns first n before → Turned before after → MadeTurns first (suc n) after
 
 -- all were made, or a turn found nothing to do
-abbrev pub EndedAt : ℕ → ℕ → Pair → Pair → Type 0
+abbrev pub EndedAt : ℕ → ℕ → TestPair → TestPair → Type 0
 EndedAt n made last after = ((made ≡ n) × (after ≡ last)) ⊎ ((made < n) × FoundNothing last after)
 
 -- Up to so many turns were made, and so many did something.
-pub record WereMade (n made : ℕ) (before after : Pair) : Type 0 where
-  pub last : Pair
+pub record WereMade (n made : ℕ) (before after : TestPair) : Type 0 where
+  pub last : TestPair
   pub turned : MadeTurns before made last
   pub ended : EndedAt n made last after
 

@@ -1,9 +1,9 @@
 -- A whole drill.
 use Rattle.std.specs.Prelude.{◌≡◌, ℕ, List, map, reverse, true, Option, Some, Ok, Err, option_map}
-use Rattle.cd_script.specs.Script.{Order, Orders, orders_of}
-use Rattle.cd_legal.specs.Legal.{is_legal}
+use Rattle.cd_drill_script.specs.Script.{Order, Orders, orders_of}
+use Rattle.cd_rules.specs.Legal.{is_legal}
 use Rattle.cd_plain.specs.NodeState.{NodeState}
-use Rattle.cd_reading.specs.Read.{canonical_reading}
+use Rattle.cd_canonical.specs.Read.{canonical_reading}
 use Rattle.cd_drill.specs.AtRest.{entries_of}
 use Rattle.cd_drill.specs.Course.{Ran}
 use Rattle.cd_drill.specs.Kept.{is_reserved}

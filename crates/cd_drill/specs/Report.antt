@@ -2,14 +2,14 @@
 use Rattle.std.specs.Prelude.{◌≡◌, ℕ, ◌%◌, List, [], ◌∷◌, ◌++◌, length, sum, codes, Bool, true, false, Option, Some, None}
 use Rattle.std.specs.Fmt.{decimal}
 use Rattle.std.specs.List.{flat_map}
-use Rattle.cd_content.specs.Names.{AreNames}
+use Rattle.cd_memory_state.specs.Names.{AreNames}
 use Rattle.cd_entries.specs.declared.entry.Entry.{Entry}
-use Rattle.cd_reading.specs.Read.{canonical_reading}
+use Rattle.cd_canonical.specs.Read.{canonical_reading}
 use Rattle.cd_stats.specs.Statistics.{statistics}
 use Rattle.cd_drill.specs.AtRest.{entries_of, seen_of, names_in}
 use Rattle.cd_drill.specs.declared.course.Course.{Course}
-use Rattle.cd_drill.specs.declared.half.Half.{Half}
-use Rattle.cd_drill.specs.declared.pair.Pair.{Pair}
+use Rattle.cd_drill.specs.declared.test_node.TestNode.{TestNode}
+use Rattle.cd_drill.specs.declared.test_pair.TestPair.{TestPair}
 
 -- the sum of a file's bytes, modulo 2^32
 abbrev pub sum_of : List ℕ → ℕ
@@ -48,7 +48,7 @@ WroteOne false named seen before after = (named ≡ None) × (after ≡ before)
 abbrev pub turns_line : ℕ → List ℕ
 turns_line n = codes "TURNS " ++ decimal n ++ 10 ∷ []
 
-abbrev pub half_report : List ℕ → Half → List ℕ
+abbrev pub half_report : List ℕ → TestNode → List ℕ
 half_report name half = node_report name (entries_of half) (seen_of half) (names_in half)
 
 -- what was replied, what each node recorded with its files, and how many turns did something
@@ -57,6 +57,6 @@ report_of course =
     course.out.items ++ half_report (codes "ALPHA") course.pair.a ++ half_report (codes "BETA") course.pair.b ++ turns_line course.turns
 
 -- the names of the files of both are those that have a file, each once, in the order of their bytes
-pub record AreNamed (pair : Pair) : Type 0 where
+pub record AreNamed (pair : TestPair) : Type 0 where
   pub a : AreNames (names_in pair.a) (seen_of pair.a)
   pub b : AreNames (names_in pair.b) (seen_of pair.b)

@@ -3,8 +3,8 @@ ghost use Rattle.std.specs.Prelude.{◌≡◌, Some, None, option_map};
 ghost use Rattle.cd_drill.specs.Drilled.{node_a, node_b};
 
 use crate::course::Course;
+use cd_canonical::Canonical;
 use cd_plain::Node;
-use cd_reading::Canonical;
 
 /// The two nodes of the last drill.
 #[derive(Drop)]

@@ -1,18 +1,18 @@
 //! The course of a drill: its nodes, and what was told so far.
 ghost use Rattle.std.specs.Prelude.{◌≡◌, ◌++◌, ◌%◌, ◌∷◌, [], List, length, map, reverse, codes, OnOk, IfOk};
-ghost use Rattle.cd_script.specs.Script.{Order as Orders};
-ghost use Rattle.cd_script.specs.Seen.{seen_order, seen_line};
+ghost use Rattle.cd_drill_script.specs.Script.{Order as Orders};
+ghost use Rattle.cd_drill_script.specs.Seen.{seen_order, seen_line};
 ghost use Rattle.cd_drill.specs.Course.{filling, half_of, OtherStays, PutAt, Replied, WereMade, TookTurns, Did, IsBegin, Ran};
 ghost use Rattle.cd_drill.specs.Pairs.{AreAtRest, IsNew};
 ghost use Rattle.cd_drill.specs.Commanded.{IsReplyTo};
 ghost use Rattle.cd_drill.specs.Report.{node_report, turns_line, report_of, AreNamed};
 
 use crate::fault::DrillFault;
-use crate::pair::Pair;
 use crate::reply::{reply_to, write_reply};
 use crate::report::{law_of_names, write_half};
+use crate::test_pair::TestPair;
+use cd_drill_script::{Numbered, Order, Party};
 use cd_operator::Reply;
-use cd_script::{Numbered, Order, Party};
 use cd_types::{Moment, NodeName};
 use std::alloc::Global;
 
@@ -22,7 +22,7 @@ const BEGIN: u64 = 1_709_287_200;
 /// What was done of a script: the nodes, what was replied, and how many turns did something.
 #[derive(Drop)]
 pub struct Course {
-    pub(crate) pair: Pair,
+    pub(crate) pair: TestPair,
     out: Vec<u8>,
     turns: u64,
 }
@@ -36,7 +36,7 @@ fn filling(alloc: Global, count: u32) -> Result<Vec<u8>, DrillFault>
 }
 
 /// The two nodes at the beginning.
-fn begin_pair(alloc: Global) -> Result<Pair, DrillFault>
+fn begin_pair(alloc: Global) -> Result<TestPair, DrillFault>
     ensures rest { IfOk result (λ pair. AreAtRest pair) }
     ensures begin { IfOk result (IsNew (codes "ALPHA") (codes "BETA") 1709287200) }
 {
@@ -47,12 +47,17 @@ fn begin_pair(alloc: Global) -> Result<Pair, DrillFault>
     ) else {
         return Err(DrillFault::NoMemory);
     };
-    let pair = Pair::new(alloc, a, b, now)?;
+    let pair = TestPair::new(alloc, a, b, now)?;
     Ok(pair)
 }
 
 /// A node does a command, and replies.
-fn reply_at(alloc: Global, pair: &mut Pair, party: Party, text: &[u8]) -> Result<Reply, DrillFault>
+fn reply_at(
+    alloc: Global,
+    pair: &mut TestPair,
+    party: Party,
+    text: &[u8],
+) -> Result<Reply, DrillFault>
     requires { AreAtRest pair.old }
     ensures rest { OnOk result (AreAtRest pair.new) }
     ensures done { IfOk result (λ reply. IsReplyTo text.now reply (half_of party pair.old) (half_of party pair.new)) }
@@ -71,7 +76,7 @@ fn reply_at(alloc: Global, pair: &mut Pair, party: Party, text: &[u8]) -> Result
 }
 
 /// Up to so many turns are made. Answers how many did something.
-fn make_turns(pair: &mut Pair, count: u64) -> Result<u64, DrillFault>
+fn make_turns(pair: &mut TestPair, count: u64) -> Result<u64, DrillFault>
     requires { AreAtRest pair.old }
     ensures rest { OnOk result (AreAtRest pair.new) }
     ensures made { IfOk result (λ made. WereMade count made pair.old pair.new) }

@@ -2,7 +2,7 @@
 ghost use Rattle.std.specs.Prelude.{◌≡◌};
 ghost use Rattle.cd_drill.specs.declared.fault.DrillFault.TheVariants.{NoMemory};
 
-use cd_deeds::Fault;
+use cd_effects::Fault;
 use std::alloc::{AllocError, AllocFailed};
 use thiserror::Error;
 

@@ -3,7 +3,7 @@ ghost use Rattle.std.specs.Prelude.{◌≡◌};
 ghost use Rattle.cd_drill.specs.Kept.{is_kept};
 
 use cd_commands::{Command, CommandFault, law_of_grammar, read_command};
-use cd_script::Reserved;
+use cd_drill_script::Reserved;
 use cd_types::NoMemory;
 use std::alloc::Global;
 

@@ -4,15 +4,15 @@
 mod bench;
 mod course;
 mod fault;
-mod half;
 mod kept;
-mod pair;
 mod refused;
 mod reply;
 mod report;
 mod running;
+mod test_node;
+mod test_pair;
 
 pub use bench::Bench;
 pub use fault::DrillFault;
-pub use half::Half;
 pub use running::{drill, rehearse};
+pub use test_node::TestNode;

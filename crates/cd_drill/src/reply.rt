@@ -4,17 +4,17 @@ ghost use Rattle.cd_drill.specs.AtRest.{IsAtRest};
 ghost use Rattle.cd_drill.specs.Replies.{home_line, number_line, reply_line};
 ghost use Rattle.cd_drill.specs.Commanded.{IsReplyTo};
 
-use crate::half::Half;
 use crate::refused::write_refused;
+use crate::test_node::TestNode;
 use cd_ast::FaultName;
 use cd_commands::{CommandFault, read_command};
-use cd_deeds::Fault;
+use cd_effects::Fault;
 use cd_operator::{Refused, Reply};
 use cd_types::NoMemory;
 use std::alloc::Global;
 
 /// The node does a command, and replies.
-pub(crate) fn reply_to(alloc: Global, half: &mut Half, text: &[u8]) -> Result<Reply, Fault>
+pub(crate) fn reply_to(alloc: Global, half: &mut TestNode, text: &[u8]) -> Result<Reply, Fault>
     requires { IsAtRest half.old }
     ensures rest { OnOk result (IsAtRest half.new) }
     ensures replied { IfOk result (λ reply. IsReplyTo text.now reply half.old half.new) }

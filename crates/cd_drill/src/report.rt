@@ -1,10 +1,10 @@
 //! What a drill reports of a node.
 ghost use Rattle.std.specs.Prelude.{◌≡◌, ◌++◌, slice_get, OnOk, IfOk};
-ghost use Rattle.cd_content.specs.Names.{AreNames};
+ghost use Rattle.cd_memory_state.specs.Names.{AreNames};
 ghost use Rattle.cd_drill.specs.AtRest.{seen_of, names_in};
 ghost use Rattle.cd_drill.specs.Report.{sum_of, file_line, WroteOne, file_lines, head_line, half_report};
 
-use crate::half::Half;
+use crate::test_node::TestNode;
 use cd_stats::write_statistics;
 use cd_types::NoMemory;
 use std::alloc::Global;
@@ -34,7 +34,7 @@ fn write_file(alloc: Global, name: &[u8], bytes: &[u8], into: &mut Vec<u8>) -> R
 /// Writes the line of the file at a place, in the order of names. Answers whether there is one.
 fn write_file_at(
     alloc: Global,
-    half: &Half,
+    half: &TestNode,
     at: usize,
     into: &mut Vec<u8>,
 ) -> Result<bool, NoMemory>
@@ -53,7 +53,7 @@ fn write_file_at(
 }
 
 /// Writes the lines of a node's files, in the order of their names.
-fn write_files(alloc: Global, half: &Half, into: &mut Vec<u8>) -> Result<(), NoMemory>
+fn write_files(alloc: Global, half: &TestNode, into: &mut Vec<u8>) -> Result<(), NoMemory>
     ensures { OnOk result (into.new.items ≡ into.old.items ++ file_lines (seen_of half.now) (names_in half.now)) }
 {
     for at in 0..usize::MAX {
@@ -79,7 +79,7 @@ fn write_head(alloc: Global, name: &[u8], entries: u32, into: &mut Vec<u8>) -> R
 /// Writes what a node recorded, and its files.
 pub(crate) fn write_half(
     alloc: Global,
-    half: &Half,
+    half: &TestNode,
     name: &[u8],
     into: &mut Vec<u8>,
 ) -> Result<(), NoMemory>
@@ -93,7 +93,7 @@ pub(crate) fn write_half(
 }
 
 /// The names of a node's files are those that have a file, each once, in the order of their bytes.
-pub(crate) fn law_of_names(half: &Half)
+pub(crate) fn law_of_names(half: &TestNode)
     ensures { AreNames (names_in half.now) (seen_of half.now) }
 {
     let _ = half.file_name(0);

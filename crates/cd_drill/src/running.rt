@@ -1,7 +1,7 @@
 //! A drill.
 ghost use Rattle.std.specs.Prelude.{◌≡◌, map, reverse, Ok, IfOk, IfErr};
-ghost use Rattle.cd_script.specs.Script.{orders_of};
-ghost use Rattle.cd_script.specs.Seen.{seen_line, seen_order};
+ghost use Rattle.cd_drill_script.specs.Script.{orders_of};
+ghost use Rattle.cd_drill_script.specs.Seen.{seen_line, seen_order};
 ghost use Rattle.cd_drill.specs.Course.{Ran};
 ghost use Rattle.cd_drill.specs.Pairs.{AreAtRest};
 ghost use Rattle.cd_drill.specs.Kept.{is_reserved};
@@ -12,7 +12,7 @@ use crate::bench::Bench;
 use crate::course::Course;
 use crate::fault::DrillFault;
 use crate::kept::Kept;
-use cd_script::{Numbered, ScriptFault, read_script};
+use cd_drill_script::{Numbered, ScriptFault, read_script};
 use cd_types::NoMemory;
 use std::alloc::Global;
 
@@ -101,7 +101,7 @@ fn run_script(alloc: Global, script: &[u8]) -> Result<Told, DrillFault>
 /// exactly where a line of the script asks for nothing that a line may ask for.
 ///
 /// What each turn does is said by the rules of a node, of one node with what the other one gave it. That the two nodes together are a
-/// world of `cd_world` is said by `cd_rehearsed`.
+/// world of `cd_world` is said by `cd_drill_world`.
 #[tactic(none)]
 pub fn drill(alloc: Global, script: &[u8], bench: &mut Bench) -> Result<Vec<u8>, DrillFault>
     ensures report { IfOk result (λ report. WasDrilled script.now report.items bench.new) }

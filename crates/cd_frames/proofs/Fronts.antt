@@ -9,9 +9,9 @@ use Rattle.cd_frames.specs.Reading.{sized_answer_to}
 use Rattle.cd_frames.specs.Stream.{Front, gives, refuses, waits, front_of}
 use Rattle.cd_types.specs.Format.{IsBytes}
 use Rattle.cd_frames.specs.Frame.{body_bytes, message_in, IsFrame, IsMessage, IsWritable}
-use Rattle.cd_frames.specs.FrameLaw.{message_only, message_writable}
+use Rattle.cd_frames.proofs.FrameLaw.{message_only, message_writable}
 use Rattle.cd_frames.specs.declared.frame.Frame.{Frame}
-use Rattle.cd_frames.specs.StreamLaw.{gives_only, number_after, number_front, number_there}
+use Rattle.cd_frames.proofs.StreamLaw.{gives_only, number_after, number_front, number_there}
 use Rattle.cd_frames.specs.declared.frame.FrameFault.{FrameFault}
 
 pub gave : (f : Front) (m : Message) (n : ℕ) → Ok (Some (m, n)) ≡ sized_answer_to f → f ≡ gives m n

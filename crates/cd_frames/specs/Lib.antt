@@ -1,15 +1,9 @@
 pub mod Buffer
 pub mod Frame
-pub mod FrameLaw
-pub mod FramesLaw
 pub mod Message
 pub mod Reading
-pub mod ReadingLaw
 pub mod Reject
 pub mod Run
-pub mod RunLaw
 pub mod Stream
-pub mod StreamLaw
 pub mod Symbols
-pub mod SymbolsLaw
 pub mod Whole

@@ -12,7 +12,7 @@ ghost use Rattle.cd_frames.specs.Symbols.{is_symbols, pairs_of, symbols_bytes, w
 
 /// What is written behind a frame's length is read as what the frame says, and nothing else is read so. No frame's bytes begin
 /// another frame's bytes.
-#[tactic(auto, using(crate::specs::FrameLaw::message_again))]
+#[tactic(auto, using(crate::proofs::FrameLaw::message_again))]
 pub fn law_of_frames()
     ensures again { (message : Message) → IsMessage message → message_in (body_bytes message) ≡ Some message }
     ensures only { (bytes : List ℕ) (message : Message) → IsBytes bytes → message_in bytes ≡ Some message

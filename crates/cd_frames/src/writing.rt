@@ -94,7 +94,7 @@ fn code_of(frame: &Frame) -> u8
 }
 
 /// How many bytes a frame's fields have.
-#[tactic(auto, using(crate::specs::FrameLaw::command_is_text))]
+#[tactic(auto, using(crate::proofs::FrameLaw::command_is_text))]
 fn fields_size(frame: &Frame) -> usize
     requires fields { IsWritable (message_of frame.now) }
     requires short { length (body_bytes (message_of frame.now)) ≤ 131072 }
@@ -126,7 +126,7 @@ fn fields_size(frame: &Frame) -> usize
 }
 
 /// Appends the bytes of a frame's fields. It takes no memory.
-#[tactic(auto, using(crate::specs::FrameLaw::command_is_text))]
+#[tactic(auto, using(crate::proofs::FrameLaw::command_is_text))]
 fn put_fields(frame: &Frame, into: &mut Vec<u8>)
     requires fields { IsWritable (message_of frame.now) }
     requires room { vec_len into.old + length (fields_of (message_of frame.now)) ≤ vec_capacity into.old }

@@ -60,16 +60,16 @@ impl Journal {
     /// Writes the header and a closed gate, 9 bytes, onto a disk without bytes. A stop within may leave any bytes, up to
     /// so many: the file is then deleted, and made anew.
     pub fn create<P: Disk>(disk: &mut P, beat: &mut Beat) -> Result<(), JournalFault>
-        requires empty { P.told → (P.state disk.old).seen ≡ [] }
-        requires order { P.told → last_of (P.state disk.old).calls ≤ beat.old }
-        ensures created { P.told → OnOk result (IsSettledAs (header ++ 0 ∷ []) (P.state disk.new)) }
-        ensures moments { P.told → Moments (LeftAt (P.state disk.old)) (LeftAt (P.state disk.new)) beat.old
+        requires empty { P.observable → (P.state disk.old).seen ≡ [] }
+        requires order { P.observable → last_of (P.state disk.old).calls ≤ beat.old }
+        ensures created { P.observable → OnOk result (IsSettledAs (header ++ 0 ∷ []) (P.state disk.new)) }
+        ensures moments { P.observable → Moments (LeftAt (P.state disk.old)) (LeftAt (P.state disk.new)) beat.old
             (λ image. length image ≤ max (P.state disk.old).doubt.greatest 9) }
         ensures cause { OnDisk result (Rose (P.faults disk.old) (P.faults disk.new)) }
         ensures full { IfFull result (λ _. ⊥) }
         ensures unfit { IfUnfit result (λ _. ⊥) }
         ensures memory { OnNoMemory result ⊥ }
-        ensures order { P.told → last_of (P.state disk.new).calls ≤ beat.new }
+        ensures order { P.observable → last_of (P.state disk.new).calls ≤ beat.new }
         ensures beat { beat.old ≤ beat.new }
         ensures later { P.faults disk.old ≤ P.faults disk.new }
     {
@@ -83,16 +83,16 @@ impl Journal {
     ///
     /// A disk of 2^32 bytes or more, which no append makes, is answered as want of memory.
     pub fn open<P: Disk>(alloc: Global, disk: &mut P, beat: &mut Beat) -> Result<Self, JournalFault>
-        requires { P.told → last_of (P.state disk.old).calls ≤ beat.old }
-        ensures opens { P.told → IfOk result (λ journal. Opens journal (P.state disk.new)) }
+        requires { P.observable → last_of (P.state disk.old).calls ≤ beat.old }
+        ensures opens { P.observable → IfOk result (λ journal. Opens journal (P.state disk.new)) }
         ensures sound { IfOk result (λ journal. journal.sound ≡ true) }
-        ensures unfit { P.told → IfUnfit result (λ at. list_of (P.state disk.old).seen ≡ Err at) }
-        ensures same { P.told → (P.state disk.new).seen ≡ (P.state disk.old).seen }
-        ensures moments { P.told → Moments (LeftAt (P.state disk.old)) (LeftAt (P.state disk.new)) beat.old
+        ensures unfit { P.observable → IfUnfit result (λ at. list_of (P.state disk.old).seen ≡ Err at) }
+        ensures same { P.observable → (P.state disk.new).seen ≡ (P.state disk.old).seen }
+        ensures moments { P.observable → Moments (LeftAt (P.state disk.old)) (LeftAt (P.state disk.new)) beat.old
             (IsImage (P.state disk.old).doubt) }
         ensures cause { OnDisk result (Rose (P.faults disk.old) (P.faults disk.new)) }
         ensures full { IfFull result (λ _. ⊥) }
-        ensures order { P.told → last_of (P.state disk.new).calls ≤ beat.new }
+        ensures order { P.observable → last_of (P.state disk.new).calls ≤ beat.new }
         ensures beat { beat.old ≤ beat.new }
         ensures later { P.faults disk.old ≤ P.faults disk.new }
     {
@@ -150,19 +150,19 @@ impl Journal {
         requires short { length body.now ≤ 262144 }
         requires sound { self.old.sound ≡ true }
         requires has_header { self.old.has_header ≡ true }
-        requires at { P.told → IsAt self.old (P.state disk.old) }
-        requires order { P.told → last_of (P.state disk.old).calls ≤ beat.old }
+        requires at { P.observable → IsAt self.old (P.state disk.old) }
+        requires order { P.observable → last_of (P.state disk.old).calls ≤ beat.old }
 
         // Acknowledged: it is on the disk.
-        ensures at { P.told → OnOk result (IsAt self.new (P.state disk.new)) }
-        ensures list { P.told → OnOk result
+        ensures at { P.observable → OnOk result (IsAt self.new (P.state disk.new)) }
+        ensures list { P.observable → OnOk result
             (list_of (P.state disk.new).seen ≡ with_last (list_of (P.state disk.old).seen) body.now) }
-        ensures bytes { P.told → OnOk result
+        ensures bytes { P.observable → OnOk result
             ((P.state disk.new).seen ≡ opened self.old.end (entry_block body.now) (P.state disk.old).seen) }
         ensures grows { OnOk result (GrowsBy (length body.now) self.old self.new) }
 
         // At each moment it counts as a whole or not at all.
-        ensures moments { P.told → Moments (LeftAt (P.state disk.old)) (LeftAt (P.state disk.new)) beat.old
+        ensures moments { P.observable → Moments (LeftAt (P.state disk.old)) (LeftAt (P.state disk.new)) beat.old
             (IsBeforeOrAfter (P.state disk.old).seen body.now) }
 
         // What it answers otherwise, and when.
@@ -179,7 +179,7 @@ impl Journal {
         ensures sound { self.new.sound ≡ sound_after result self.old.sound }
         ensures full_first { IfFull result (λ _. (disk.new ≡ disk.old) × (beat.new ≡ beat.old)) }
         ensures memory_first { OnNoMemory result ((disk.new ≡ disk.old) × (beat.new ≡ beat.old)) }
-        ensures order { P.told → last_of (P.state disk.new).calls ≤ beat.new }
+        ensures order { P.observable → last_of (P.state disk.new).calls ≤ beat.new }
         ensures beat { beat.old ≤ beat.new }
         ensures later { P.faults disk.old ≤ P.faults disk.new }
     {
@@ -212,10 +212,10 @@ impl Journal {
         into: &mut Vec<u8>,
     ) -> Result<(), JournalFault>
         requires below { i < length self.old.places }
-        requires at { P.told → IsAt self.old (P.state disk.old) }
-        ensures body { P.told → OnOk result
+        requires at { P.observable → IsAt self.old (P.state disk.old) }
+        ensures body { P.observable → OnOk result
             (IfOk (list_of (P.state disk.old).seen) (λ bodies. slice_get bodies i ≡ Some into.new.items)) }
-        ensures same { P.told → P.state disk.new ≡ P.state disk.old }
+        ensures same { P.observable → P.state disk.new ≡ P.state disk.old }
         ensures kept { KeepsList self.old self.new }
         ensures sound { self.new.sound ≡ sound_after result self.old.sound }
         ensures cause { OnDisk result (Rose (P.faults disk.old) (P.faults disk.new)) }
@@ -237,11 +237,11 @@ impl Journal {
 
 // Reads the list of a disk that was synced.
 fn load<P: Disk>(alloc: Global, disk: &mut P) -> Result<Journal, JournalFault>
-    requires { P.told → (P.state disk.old).doubt ≡ settled (P.state disk.old).seen }
-    ensures opens { P.told → IfOk result (λ journal. Opens journal (P.state disk.old)) }
+    requires { P.observable → (P.state disk.old).doubt ≡ settled (P.state disk.old).seen }
+    ensures opens { P.observable → IfOk result (λ journal. Opens journal (P.state disk.old)) }
     ensures sound { IfOk result (λ journal. journal.sound ≡ true) }
-    ensures unfit { P.told → IfUnfit result (λ at. list_of (P.state disk.old).seen ≡ Err at) }
-    ensures same { P.told → P.state disk.new ≡ P.state disk.old }
+    ensures unfit { P.observable → IfUnfit result (λ at. list_of (P.state disk.old).seen ≡ Err at) }
+    ensures same { P.observable → P.state disk.new ≡ P.state disk.old }
     ensures cause { OnDisk result (Rose (P.faults disk.old) (P.faults disk.new)) }
     ensures full { IfFull result (λ _. ⊥) }
     ensures later { P.faults disk.old ≤ P.faults disk.new }

@@ -13,10 +13,10 @@ pub fn read_into<P: Disk>(
     len: usize,
     into: &mut Vec<u8>,
 ) -> Result<(), JournalFault>
-    requires { P.told → at + len ≤ length (P.state disk.old).seen }
-    ensures bytes { P.told → OnOk result (into.new.items ≡ take len (drop at (P.state disk.old).seen)) }
+    requires { P.observable → at + len ≤ length (P.state disk.old).seen }
+    ensures bytes { P.observable → OnOk result (into.new.items ≡ take len (drop at (P.state disk.old).seen)) }
     ensures len { OnOk result (length into.new.items ≡ len) }
-    ensures same { P.told → P.state disk.new ≡ P.state disk.old }
+    ensures same { P.observable → P.state disk.new ≡ P.state disk.old }
     ensures cause { OnDisk result (Rose (P.faults disk.old) (P.faults disk.new)) }
     ensures full { IfFull result (λ _. ⊥) }
     ensures unfit { IfUnfit result (λ _. ⊥) }

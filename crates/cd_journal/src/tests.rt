@@ -84,7 +84,7 @@ fn overwrite(seen: &mut Vec<u8>, at: usize, bytes: &[u8]) -> Result<(), AllocErr
 }
 
 impl Disk for TestDisk {
-    ghost told = { ⊥ };
+    ghost observable = { ⊥ };
 
     ghost state = { λ _. record { seen = []; doubt = settled []; calls = [] } };
 

@@ -31,13 +31,13 @@ pub fn fill(block: &mut Vec<u8>, body: &[u8]) -> Result<(), AllocError>
 
 /// Writes a block behind the closed gate, and then opens the gate.
 pub fn put<P: Disk>(disk: &mut P, gate: u32, block: &[u8], beat: &mut Beat) -> Result<(), Failed>
-    requires range { P.told → gate < length (P.state disk.old).seen }
-    requires order { P.told → last_of (P.state disk.old).calls ≤ beat.old }
-    requires rests { P.told → (P.state disk.old).doubt ≡ settled (P.state disk.old).seen }
-    ensures done { P.told → OnOk result (IsSettledAs (opened gate block.now (P.state disk.old).seen) (P.state disk.new)) }
-    ensures moments { P.told → Moments (LeftAt (P.state disk.old)) (LeftAt (P.state disk.new)) beat.old
+    requires range { P.observable → gate < length (P.state disk.old).seen }
+    requires order { P.observable → last_of (P.state disk.old).calls ≤ beat.old }
+    requires rests { P.observable → (P.state disk.old).doubt ≡ settled (P.state disk.old).seen }
+    ensures done { P.observable → OnOk result (IsSettledAs (opened gate block.now (P.state disk.old).seen) (P.state disk.new)) }
+    ensures moments { P.observable → Moments (LeftAt (P.state disk.old)) (LeftAt (P.state disk.new)) beat.old
         (IsTornEntry gate block.now (P.state disk.old).seen) }
-    ensures order { P.told → last_of (P.state disk.new).calls ≤ beat.new }
+    ensures order { P.observable → last_of (P.state disk.new).calls ≤ beat.new }
     ensures beat { beat.old ≤ beat.new }
     ensures later { P.faults disk.old ≤ P.faults disk.new }
     ensures cause { OnErr result (Rose (P.faults disk.old) (P.faults disk.new)) }

@@ -3,7 +3,7 @@ use Rattle.std.proofs.Common.{◌≡◌, ℕ, ◌+◌, Bool, true, false, cond, 
 use Rattle.std.specs.Prelude.{if◌then◌else◌}
 use Rattle.std.specs.List.{position_from}
 use Rattle.cd_outside.specs.Lines.{Traffic}
-use Rattle.cd_content.specs.Pieces.{PieceHeld, is_left_of_session, has_come, coming}
+use Rattle.cd_memory_state.specs.Pieces.{PieceHeld, is_left_of_session, has_come, coming}
 
 abbrev pub given_by : Traffic → PieceHeld → List ℕ
 given_by traffic piece = if has_come traffic piece.after then piece.rest else []

@@ -11,5 +11,5 @@ pub mod SteadyLines
 pub mod SteadySpawner
 pub mod SteadyStreams
 pub mod Stops
-pub use Rattle.cd_content.specs.Generator
-pub use Rattle.cd_content.specs.Record
+pub use Rattle.cd_memory_state.specs.Generator
+pub use Rattle.cd_memory_state.specs.Record

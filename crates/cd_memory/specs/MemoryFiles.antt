@@ -5,7 +5,7 @@ use Rattle.cd_outside.specs.Counts.{next}
 use Rattle.cd_memory.specs.Stops.{fate_of, is_stopping}
 use Rattle.cd_memory.specs.declared.fate.Fate.{Fate}
 use Rattle.cd_outside.specs.Files.{FilesState}
-use Rattle.cd_content.specs.Shelves.{state_in, names_in}
+use Rattle.cd_memory_state.specs.Shelves.{state_in, names_in}
 use Rattle.cd_memory.specs.declared.files.MemoryFiles.{MemoryFiles}
 
 -- what a read gives of each name, and what a crash may leave at each beat

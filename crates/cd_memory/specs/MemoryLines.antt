@@ -3,8 +3,8 @@ use Rattle.std.specs.Prelude.{ℕ, ◌≡◌, ◌==◌, Bool, List}
 use Rattle.std.specs.List.{list_any}
 use Rattle.cd_outside.specs.Counts.{next}
 use Rattle.cd_outside.specs.Lines.{Traffic, LineCounts}
-use Rattle.cd_content.specs.Exchange.{traffic_in, last_in, faults_in, ends_in}
-use Rattle.cd_content.specs.Pieces.{PieceHeld}
+use Rattle.cd_memory_state.specs.Exchange.{traffic_in, last_in, faults_in, ends_in}
+use Rattle.cd_memory_state.specs.Pieces.{PieceHeld}
 use Rattle.cd_memory.specs.declared.lines.MemoryLines.{MemoryLines}
 
 -- the bytes of each session, and the order of the sends

@@ -1,7 +1,7 @@
 -- What steady files in memory show.
 use Rattle.std.specs.Prelude.{ℕ, List}
 use Rattle.cd_outside.specs.Files.{FilesState}
-use Rattle.cd_content.specs.Ledger.{ledger_state, ledger_calls_left, ledger_bytes_left, ledger_names}
+use Rattle.cd_memory_state.specs.Ledger.{ledger_state, ledger_calls_left, ledger_bytes_left, ledger_names}
 use Rattle.cd_memory.specs.declared.steady_files.SteadyFiles.{SteadyFiles}
 
 -- what a read gives of each name, and what a crash may leave at each beat

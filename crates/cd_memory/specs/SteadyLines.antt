@@ -1,8 +1,8 @@
 -- What steady lines in memory show.
 use Rattle.std.specs.Prelude.{ℕ, ◌≡◌, ◌≤◌, List}
 use Rattle.cd_outside.specs.Lines.{Traffic, LineCounts}
-use Rattle.cd_content.specs.Pieces.{PieceHeld}
-use Rattle.cd_content.specs.Roll.{roll_traffic, roll_last, roll_faults, roll_ends, roll_calls_left, roll_bytes_left}
+use Rattle.cd_memory_state.specs.Pieces.{PieceHeld}
+use Rattle.cd_memory_state.specs.Roll.{roll_traffic, roll_last, roll_faults, roll_ends, roll_calls_left, roll_bytes_left}
 use Rattle.cd_memory.specs.declared.steady_lines.SteadyLines.{SteadyLines}
 
 -- the bytes of each session, and the order of the sends

@@ -31,7 +31,7 @@ impl MemoryClock {
 }
 
 impl Clock for MemoryClock {
-    ghost told = { Unit {0} };
+    ghost observable = { Unit {0} };
 
     ghost moment = { λ clock. clock.moment };
 
@@ -68,7 +68,7 @@ impl SteadyClock {
 }
 
 impl Clock for SteadyClock {
-    ghost told = { Unit {0} };
+    ghost observable = { Unit {0} };
 
     ghost moment = { λ clock. clock.moment };
 

@@ -4,7 +4,7 @@ use crate::FaultScript;
 use crate::fate::Fate;
 use crate::stop::Stop;
 use crate::tally::Tally;
-use cd_content::Content;
+use cd_memory_state::Content;
 use cd_outside::{Beat, Disk, Failed};
 use cd_types::NoMemory;
 use std::alloc::Global;
@@ -20,8 +20,8 @@ pub struct MemoryDisk {
 
 impl MemoryDisk {
     ghost use Rattle.std.specs.Prelude.{◌≡◌, ◌+◌, ◌++◌, [], ◌∷◌, min, false, true, OnOk, OnErr, IfOk, Some, None};
-    ghost use Rattle.cd_content.specs.Record.{at_first};
-    ghost use Rattle.cd_content.specs.Generator.{left_by};
+    ghost use Rattle.cd_memory_state.specs.Record.{at_first};
+    ghost use Rattle.cd_memory_state.specs.Generator.{left_by};
     ghost use Rattle.cd_memory.specs.MemoryDisk.{state_of, script_of, calls_of, faults_of, is_starved, stop_of, is_stopped, ChangesState, ChangesScript};
 
     /// An empty disk, whose calls of these numbers fail.
@@ -105,7 +105,7 @@ impl Disk for MemoryDisk {
     ghost use Rattle.cd_memory.specs.MemoryDisk.{state_of, faults_of, is_starved, fails_next, next_fate, WasAsked, WasCalled};
     ghost use Rattle.cd_memory.specs.declared.fate.Fate.TheVariants.{Done, UnderWay, Nothing};
 
-    ghost told = { Unit {0} };
+    ghost observable = { Unit {0} };
 
     ghost state = { λ disk. disk.content.state };
 

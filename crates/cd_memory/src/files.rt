@@ -3,7 +3,7 @@ use crate::fate::Fate;
 use crate::reading::read_from;
 use crate::stop::Stop;
 use crate::tally::Tally;
-use cd_content::Shelves;
+use cd_memory_state::Shelves;
 use cd_outside::{Beat, Failed, Files};
 use cd_types::NoMemory;
 use std::alloc::Global;
@@ -18,9 +18,9 @@ pub struct MemoryFiles {
 
 impl MemoryFiles {
     ghost use Rattle.std.specs.Prelude.{◌≡◌, ◌+◌, ◌++◌, [], ◌∷◌, min, false, true, OnOk, OnErr, IfOk, Some, None, option_map, slice_get};
-    ghost use Rattle.cd_content.specs.Names.{AreNames};
-    ghost use Rattle.cd_content.specs.Put.{files_put};
-    ghost use Rattle.cd_content.specs.FileImage.{shelf_left_by};
+    ghost use Rattle.cd_memory_state.specs.Names.{AreNames};
+    ghost use Rattle.cd_memory_state.specs.Put.{files_put};
+    ghost use Rattle.cd_memory_state.specs.FileImage.{shelf_left_by};
     ghost use Rattle.cd_outside.specs.Shelf.{IsShelfImage};
     ghost use Rattle.cd_outside.specs.Files.{files_at_first};
     ghost use Rattle.cd_memory.specs.MemoryFiles.{state_of, script_of, calls_of, faults_of, is_starved, stop_of, is_stopped, names_of, ChangesState, ChangesScript};
@@ -112,11 +112,11 @@ impl Files for MemoryFiles {
     ghost use Rattle.cd_outside.specs.Counts.{next, Rose};
     ghost use Rattle.cd_outside.specs.Shelf.{content_of, WriteFile, CutFile, SyncFile, RemoveFile};
     ghost use Rattle.cd_outside.specs.Files.{files_last_of, files_did, FilesWereCutOff};
-    ghost use Rattle.cd_content.specs.Shelves.{state_in};
+    ghost use Rattle.cd_memory_state.specs.Shelves.{state_in};
     ghost use Rattle.cd_memory.specs.MemoryFiles.{state_of, faults_of, is_starved, fails_next, next_fate, WasAsked, WasCalled};
     ghost use Rattle.cd_memory.specs.declared.fate.Fate.TheVariants.{Done, UnderWay, Nothing};
 
-    ghost told = { Unit {0} };
+    ghost observable = { Unit {0} };
 
     ghost state = { λ files. state_in files.shelves };
 

@@ -22,7 +22,7 @@ mod steady_spawner;
 mod stop;
 mod tally;
 
-pub use cd_content::Generator;
+pub use cd_memory_state::Generator;
 pub use clock::{MemoryClock, SteadyClock};
 pub use disk::MemoryDisk;
 pub use files::MemoryFiles;

@@ -1,12 +1,12 @@
 ghost use Rattle.std.specs.Prelude.{◌≡◌, ◌≤◌, ◌<◌, length, take, IfSome};
 ghost use Rattle.std.specs.List.{position_from};
-ghost use Rattle.cd_content.specs.Exchange.{traffic_in};
-ghost use Rattle.cd_content.specs.Pieces.{has_come, coming, is_left_of_session};
+ghost use Rattle.cd_memory_state.specs.Exchange.{traffic_in};
+ghost use Rattle.cd_memory_state.specs.Pieces.{has_come, coming, is_left_of_session};
 
 use crate::FaultScript;
 use crate::count::failed;
 use crate::tally::Tally;
-use cd_content::{Exchange, Piece};
+use cd_memory_state::{Exchange, Piece};
 use cd_outside::{ConnectFault, Failed, Lines, Sid};
 use cd_types::NoMemory;
 use std::alloc::Global;
@@ -121,12 +121,12 @@ impl Lines for MemoryLines {
     ghost use Rattle.std.specs.Prelude.{◌≡◌, ◌≤◌, ◌<◌, ◌+◌, length, take, true, false, is_some, if◌then◌else◌, IsOk, IsErr, IfOk, OnOk, OnErr, IfSome, IfNone};
     ghost use Rattle.cd_outside.specs.Counts.{next, Rose};
     ghost use Rattle.cd_outside.specs.Lines.{IsFresh, took, sent, GaveFront, NeverFell, CountsIf, SameEnds, SameOtherEnds, is_end, is_no_session};
-    ghost use Rattle.cd_content.specs.Exchange.{traffic_in, last_in, faults_in, ends_in};
-    ghost use Rattle.cd_content.specs.Pieces.{coming};
+    ghost use Rattle.cd_memory_state.specs.Exchange.{traffic_in, last_in, faults_in, ends_in};
+    ghost use Rattle.cd_memory_state.specs.Pieces.{coming};
     ghost use Rattle.cd_outside.specs.declared.lines.ConnectFault.TheVariants as fault;
     ghost use Rattle.cd_memory.specs.MemoryLines.{traffic_of, last_of, counts_of, lines_script, lines_calls, are_starved, are_refusing, waiting_of, pieces_of, lines_fail_next};
 
-    ghost told = { Unit {0} };
+    ghost observable = { Unit {0} };
 
     ghost traffic = { λ lines. traffic_in lines.exchange };
 

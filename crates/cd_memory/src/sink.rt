@@ -59,7 +59,7 @@ impl Sink for MemorySink {
     ghost use Rattle.cd_memory.specs.MemoryStreams.{taken_of, sink_script, sink_calls, sink_faults, is_sink_starved};
     ghost use Rattle.cd_memory.specs.MemoryStreams.{sink_fails_next as fails_next};
 
-    ghost told = { Unit {0} };
+    ghost observable = { Unit {0} };
 
     ghost taken = { λ sink. sink.taken.items };
 
@@ -133,7 +133,7 @@ impl Sink for SteadySink {
     ghost use Rattle.cd_outside.specs.Streams.{TookFront};
     ghost use Rattle.cd_memory.specs.SteadyStreams.{taken_of, sink_faults, sink_room};
 
-    ghost told = { Unit {0} };
+    ghost observable = { Unit {0} };
 
     ghost taken = { λ sink. sink.taken.items };
 

@@ -1,6 +1,6 @@
 use crate::FaultScript;
 use crate::tally::Tally;
-use cd_content::Feed;
+use cd_memory_state::Feed;
 use cd_outside::{Failed, Source};
 use cd_types::NoMemory;
 use std::alloc::Global;
@@ -60,7 +60,7 @@ impl Source for MemorySource {
     ghost use Rattle.cd_memory.specs.MemoryStreams.{left_of, source_script, source_calls, source_faults};
     ghost use Rattle.cd_memory.specs.MemoryStreams.{source_fails_next as fails_next};
 
-    ghost told = { Unit {0} };
+    ghost observable = { Unit {0} };
 
     ghost remaining = { λ source. source.feed.rest };
 
@@ -128,7 +128,7 @@ impl Source for SteadySource {
     ghost use Rattle.std.specs.Prelude.{◌≡◌, ◌≤◌, ◌<◌, ◌↔◌, ◌++◌, [], length, take, IsOk, IfOk};
     ghost use Rattle.cd_memory.specs.SteadyStreams.{left_of};
 
-    ghost told = { Unit {0} };
+    ghost observable = { Unit {0} };
 
     ghost remaining = { λ source. source.feed.rest };
 

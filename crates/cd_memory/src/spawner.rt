@@ -83,7 +83,7 @@ impl Spawner for MemorySpawner {
     ghost use Rattle.cd_memory.specs.MemorySpawner.{children_of, spawner_script, spawner_calls, spawner_faults, is_spawner_starved, outcomes_of, used_of, coming_outcome, spawner_fails_next};
     ghost use Rattle.cd_outside.specs.declared.spawner.Outcome.TheVariants as outcome;
 
-    ghost told = { Unit {0} };
+    ghost observable = { Unit {0} };
 
     ghost children = { λ spawner. map child_of spawner.begun.items };
 

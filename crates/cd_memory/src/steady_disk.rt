@@ -1,7 +1,7 @@
 ghost use Rattle.cd_outside.specs.Doubt.{IsImage};
 
 use crate::count::failed;
-use cd_content::Content;
+use cd_memory_state::Content;
 use cd_outside::{Beat, Disk, Failed};
 use cd_types::NoMemory;
 use std::alloc::Global;
@@ -16,7 +16,7 @@ pub struct SteadyDisk {
 
 impl SteadyDisk {
     ghost use Rattle.std.specs.Prelude.{◌≡◌, ◌≤◌, [], OnOk, OnErr, IfOk};
-    ghost use Rattle.cd_content.specs.Record.{at_first};
+    ghost use Rattle.cd_memory_state.specs.Record.{at_first};
     ghost use Rattle.cd_memory.specs.SteadyDisk.{steady_state, steady_faults, calls_left, bytes_left};
 
     /// An empty disk, without room.
@@ -66,7 +66,7 @@ impl Disk for SteadyDisk {
     ghost use Rattle.cd_outside.specs.Disk.{Write, Cut, Sync, last_of, did, WasCutOff};
     ghost use Rattle.cd_memory.specs.SteadyDisk.{steady_state, steady_faults, calls_left, bytes_left};
 
-    ghost told = { Unit {0} };
+    ghost observable = { Unit {0} };
 
     ghost state = { λ disk. disk.content.state };
 

@@ -1,6 +1,6 @@
 use crate::count::failed;
 use crate::reading::read_from;
-use cd_content::Ledger;
+use cd_memory_state::Ledger;
 use cd_outside::{Beat, Failed, Files};
 use cd_types::NoMemory;
 use std::alloc::Global;
@@ -15,8 +15,8 @@ pub struct SteadyFiles {
 impl SteadyFiles {
     ghost use Rattle.std.specs.Prelude.{◌≡◌, ◌≤◌, None, OnOk, OnErr, IfOk, option_map, slice_get};
     ghost use Rattle.cd_outside.specs.Files.{files_at_first};
-    ghost use Rattle.cd_content.specs.Names.{AreNames};
-    ghost use Rattle.cd_content.specs.Put.{files_put};
+    ghost use Rattle.cd_memory_state.specs.Names.{AreNames};
+    ghost use Rattle.cd_memory_state.specs.Put.{files_put};
     ghost use Rattle.cd_memory.specs.SteadyFiles.{steady_state, steady_faults, calls_left, bytes_left, names_of};
 
     /// No files, without room.
@@ -73,12 +73,12 @@ impl Files for SteadyFiles {
     ghost use Rattle.cd_outside.specs.Counts.{next, Rose};
     ghost use Rattle.cd_outside.specs.Shelf.{content_of, WriteFile, CutFile, SyncFile, RemoveFile};
     ghost use Rattle.cd_outside.specs.Files.{files_last_of, files_did, FilesWereCutOff};
-    ghost use Rattle.cd_content.specs.Ledger.{ledger_state};
-    ghost use Rattle.cd_content.specs.Room.{write_takes, cut_takes};
-    ghost use Rattle.cd_content.proofs.Tidied.{log_image};
+    ghost use Rattle.cd_memory_state.specs.Ledger.{ledger_state};
+    ghost use Rattle.cd_memory_state.specs.Room.{write_takes, cut_takes};
+    ghost use Rattle.cd_memory_state.proofs.Tidied.{log_image};
     ghost use Rattle.cd_memory.specs.SteadyFiles.{steady_state, steady_faults, calls_left, bytes_left};
 
-    ghost told = { Unit {0} };
+    ghost observable = { Unit {0} };
 
     ghost state = { λ files. ledger_state files.ledger };
 

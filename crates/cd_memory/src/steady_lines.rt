@@ -1,10 +1,10 @@
 ghost use Rattle.std.specs.Prelude.{◌≡◌, ◌≤◌, length, take};
-ghost use Rattle.cd_content.specs.Roll.{roll_traffic};
-ghost use Rattle.cd_content.specs.Pieces.{has_come, coming};
+ghost use Rattle.cd_memory_state.specs.Roll.{roll_traffic};
+ghost use Rattle.cd_memory_state.specs.Pieces.{has_come, coming};
 
 use crate::count::failed;
 use crate::lines::find;
-use cd_content::{Piece, Roll};
+use cd_memory_state::{Piece, Roll};
 use cd_outside::{ConnectFault, Failed, Lines, Sid};
 use cd_types::NoMemory;
 use std::alloc::Global;
@@ -103,11 +103,11 @@ impl Lines for SteadyLines {
     ghost use Rattle.std.specs.Prelude.{◌≡◌, ◌≤◌, ◌<◌, ◌+◌, length, take, true, is_some, if◌then◌else◌, IsOk, IfOk, OnOk, OnErr, IfSome, IfNone};
     ghost use Rattle.cd_outside.specs.Counts.{Rose};
     ghost use Rattle.cd_outside.specs.Lines.{IsFresh, took, sent, GaveFront, NeverFell, CountsIf, SameEnds, SameOtherEnds, is_end, is_no_session};
-    ghost use Rattle.cd_content.specs.Roll.{roll_traffic, roll_last, roll_faults, roll_ends};
-    ghost use Rattle.cd_content.specs.Pieces.{coming};
+    ghost use Rattle.cd_memory_state.specs.Roll.{roll_traffic, roll_last, roll_faults, roll_ends};
+    ghost use Rattle.cd_memory_state.specs.Pieces.{coming};
     ghost use Rattle.cd_memory.specs.SteadyLines.{traffic_of, last_of, counts_of, waiting_of, pieces_of, calls_left, bytes_left, FaultsStay};
 
-    ghost told = { Unit {0} };
+    ghost observable = { Unit {0} };
 
     ghost traffic = { λ lines. roll_traffic lines.roll };
 

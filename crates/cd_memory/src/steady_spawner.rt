@@ -3,7 +3,7 @@ ghost use Rattle.std.specs.Prelude.{◌≡◌, ◌≤◌, length, vec_len};
 use crate::begun::Way;
 use crate::count::failed;
 use crate::end::{End, next_end};
-use cd_content::Parts;
+use cd_memory_state::Parts;
 use cd_outside::{Failed, Outcome, Spawner};
 use cd_types::NoMemory;
 use std::alloc::Global;
@@ -118,7 +118,7 @@ impl Spawner for SteadySpawner {
     ghost use Rattle.cd_memory.specs.Ends.{children_by};
     ghost use Rattle.cd_memory.specs.SteadySpawner.{children_of, spawner_faults, outcomes_of, used_of, coming_outcome, calls_left, bytes_left};
 
-    ghost told = { Unit {0} };
+    ghost observable = { Unit {0} };
 
     ghost children = { λ spawner. children_by spawner.ways.items spawner.commands.items };
 

@@ -8,7 +8,7 @@ use Rattle.cd_outside.proofs.Images.{settled_image}
 use Rattle.cd_outside.proofs.Runs.{moments_none, moments_weaker}
 use Rattle.cd_journal.specs.Bytes.{list_of}
 use Rattle.cd_entries.specs.declared.entry.Entry.{Entry}
-use Rattle.cd_deeds.specs.Registry.{RegistryState, IsRegistry, IsWithOrWithout}
+use Rattle.cd_effects.specs.Registry.{RegistryState, IsRegistry, IsWithOrWithout}
 use Rattle.cd_operator.specs.Doing.{added_by, if_allowed, MayLeave}
 use Rattle.cd_operator.specs.declared.wanted.Recording.{Recording}
 

@@ -5,9 +5,9 @@ use Rattle.std.proofs.lemmas.Option.{none-some, same_Some}
 use Rattle.cd_commands.specs.declared.command.Command.TheVariants.{Init}
 use Rattle.cd_entries.specs.declared.entry.Entry.{Entry}
 use Rattle.cd_entries.specs.declared.entry.Entry.TheVariants as entry
-use Rattle.cd_legal.specs.Legal.{allowed}
-use Rattle.cd_moves.specs.Rows.{is_formed, may_record}
-use Rattle.cd_reading.specs.Read.{canonical_reading}
+use Rattle.cd_rules.specs.Legal.{allowed}
+use Rattle.cd_protocol.specs.Rows.{is_formed, may_record}
+use Rattle.cd_canonical.specs.Read.{canonical_reading}
 use Rattle.cd_operator.specs.Doing.{added_by, by_rules, doing, if_allowed}
 use Rattle.cd_operator.specs.Wanted.{wanted}
 use Rattle.cd_operator.specs.declared.reply.Refused.{Refused}
@@ -20,8 +20,8 @@ if_may false r e is = absurd (none-some e is)
 
 pub adds_may : (now : ℕ) (entries : List Entry) (w : Result Recording Refused) (e : Entry) → added_by (by_rules now entries w) ≡ Some e → may_record canonical_reading now entries e ≡ true
 adds_may now entries (Ok r) e is =
-    let parts = if_may (may_record canonical_reading now entries r.adds) r e is in
-    subst (λ (x : Entry). may_record canonical_reading now entries x ≡ true) parts.1 parts.0
+    let reactions = if_may (may_record canonical_reading now entries r.adds) r e is in
+    subst (λ (x : Entry). may_record canonical_reading now entries x ≡ true) reactions.1 reactions.0
 adds_may now entries (Err why) e is = absurd (none-some e is)
 
 home_may : (now : ℕ) (name : List ℕ) (home : ℕ) → may_record canonical_reading now [] (entry.Home name home) ≡ true

@@ -15,11 +15,11 @@ use Rattle.cd_ast.specs.declared.process.What.TheVariants as what
 use Rattle.cd_commands.specs.declared.command.Command.TheVariants.{SubmitText}
 use Rattle.cd_commands.specs.declared.command.Options.{Options}
 use Rattle.cd_entries.specs.declared.entry.Entry.{Entry}
-use Rattle.cd_filing.specs.Filing.{default_interval, filed, is_plain_card, replaces, says_interval as has_interval, is_push_step, is_one, is_push}
-use Rattle.cd_legal.specs.Legal.{allowed, is_card_of, is_empty, is_filed, is_from, is_given, is_snode_of, has_small_symbols, may_submit, says_interval}
-use Rattle.cd_moves.specs.Rows.{is_formed, may_record}
-use Rattle.cd_reading.specs.Read.{canonical_reading}
-use Rattle.cd_status.specs.Processes.{latest, live_numbers, submitted}
+use Rattle.cd_submission.specs.Filing.{default_interval, filed, is_plain_card, replaces, says_interval as has_interval, is_push_step, is_one, is_push}
+use Rattle.cd_rules.specs.Legal.{allowed, is_card_of, is_empty, is_filed, is_from, is_given, is_snode_of, has_small_symbols, may_submit, says_interval}
+use Rattle.cd_protocol.specs.Rows.{is_formed, may_record}
+use Rattle.cd_canonical.specs.Read.{canonical_reading}
+use Rattle.cd_rules.specs.Processes.{latest, live_numbers, submitted}
 use Rattle.cd_operator.specs.Doing.{by_rules, doing, if_allowed}
 use Rattle.cd_operator.specs.Filing.{card_of, filed_as, is_built, may_wait, with_partner}
 use Rattle.cd_operator.specs.Wanted.{at_home, filed_so, filing_of, next_number, numbered_so, wanted}
@@ -37,8 +37,8 @@ is_said w = says_interval w && has_small_symbols w
 
 step_said : (w : What) → is_push_step (Some default_interval) w ≡ true → is_said w ≡ true
 step_said (what.Copy copy) h =
-    let parts = and_parts (copy.push && replaces copy.disp) (has_interval (Some default_interval) copy.ckpt) h in
-    let given = gives_interval copy.ckpt parts.1 in
+    let reactions = and_parts (copy.push && replaces copy.disp) (has_interval (Some default_interval) copy.ckpt) h in
+    let given = gives_interval copy.ckpt reactions.1 in
     ap (λ (o : Option ℕ). is_given o && true) given.1
 step_said (what.Task task) h = absurd cc
 step_said (what.Submit submit) h = absurd cc

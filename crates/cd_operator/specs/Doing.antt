@@ -1,13 +1,13 @@
 -- What a node does about a command.
 use Rattle.std.specs.Prelude.{◌⊎◌, ◌<◌, ◌+◌, ◌^◌, ℕ, List, ◌∷◌, length, Bool, true, false, Option, Some, None, Result, Ok, Err}
 use Rattle.cd_commands.specs.declared.command.Command.{Command}
-use Rattle.cd_deeds.specs.Joint.{StandsFor}
-use Rattle.cd_deeds.specs.declared.fault.Fault.{Fault}
-use Rattle.cd_deeds.specs.declared.fault.Fault.TheVariants as fault
+use Rattle.cd_effects.specs.Joint.{StandsFor}
+use Rattle.cd_effects.specs.declared.fault.Fault.{Fault}
+use Rattle.cd_effects.specs.declared.fault.Fault.TheVariants as fault
 use Rattle.cd_entries.specs.Entry.{entry_bytes}
 use Rattle.cd_entries.specs.declared.entry.Entry.{Entry}
-use Rattle.cd_moves.specs.Rows.{may_record}
-use Rattle.cd_reading.specs.Read.{canonical_reading}
+use Rattle.cd_protocol.specs.Rows.{may_record}
+use Rattle.cd_canonical.specs.Read.{canonical_reading}
 use Rattle.cd_operator.specs.Wanted.{wanted}
 use Rattle.cd_operator.specs.declared.reply.Refused.{Refused}
 use Rattle.cd_operator.specs.declared.reply.Refused.TheVariants.{NotYet}

@@ -9,9 +9,9 @@ use Rattle.cd_commands.specs.declared.command.Command.TheVariants as command
 use Rattle.cd_commands.specs.declared.command.Options.{Options}
 use Rattle.cd_entries.specs.declared.entry.Entry.{Entry}
 use Rattle.cd_entries.specs.declared.entry.Entry.TheVariants as entry
-use Rattle.cd_filing.specs.Filing.{filed}
-use Rattle.cd_status.specs.Processes.{submitted, live_numbers}
-use Rattle.cd_legal.specs.Legal.{is_empty}
+use Rattle.cd_submission.specs.Filing.{filed}
+use Rattle.cd_rules.specs.Processes.{submitted, live_numbers}
+use Rattle.cd_rules.specs.Legal.{is_empty}
 use Rattle.cd_operator.specs.Filing.{is_built, may_wait, filed_as}
 use Rattle.cd_operator.specs.declared.reply.Refused.{Refused}
 use Rattle.cd_operator.specs.declared.reply.Refused.TheVariants as refused

@@ -4,23 +4,23 @@ ghost use Rattle.cd_outside.specs.Counts.{Rose};
 ghost use Rattle.cd_outside.specs.Disk.{LeftAt};
 ghost use Rattle.cd_outside.specs.Moments.{Moments};
 ghost use Rattle.cd_book.specs.Book.{IsRead};
-ghost use Rattle.cd_deeds.specs.Stands.{HasFormedOrigin};
+ghost use Rattle.cd_effects.specs.Stands.{HasFormedOrigin};
 ghost use Rattle.cd_journal.specs.Journal.{length_of};
-ghost use Rattle.cd_legal.specs.Legal.{is_legal};
+ghost use Rattle.cd_rules.specs.Legal.{is_legal};
 ghost use Rattle.cd_plain.specs.NodeState.{HasHome, KeptSessions};
-ghost use Rattle.cd_reading.specs.Read.{canonical_reading};
+ghost use Rattle.cd_canonical.specs.Read.{canonical_reading};
 ghost use Rattle.cd_operator.specs.Doing.{added_by, answer_of, by_rules, doing, with_added, IsFaultOfDoing, MayLeave};
 
 use crate::reply::{Refused, Reply};
 use crate::wanted::{Recording, wanted};
 use cd_ast::Process;
 use cd_book::Texts;
+use cd_canonical::Canonical;
 use cd_commands::Command;
-use cd_deeds::Fault;
+use cd_effects::Fault;
 use cd_entries::Entry;
 use cd_outside::{Beat, Disk};
 use cd_plain::Node;
-use cd_reading::Canonical;
 use cd_types::{Moment, NoMemory};
 use std::alloc::Global;
 
@@ -56,15 +56,15 @@ fn record<D: Disk>(
     beat: &mut Beat,
 ) -> Result<Reply, Fault>
     requires formed { HasFormedOrigin recording.adds }
-    requires home { HasHome D.told canonical_reading node.old (D.state disk.old) beat.old now }
+    requires home { HasHome D.observable canonical_reading node.old (D.state disk.old) beat.old now }
     ensures answered { IfOk result (λ reply. reply ≡ answer_of (by_rules now node.old.registry.entries (Ok recording))) }
     ensures recorded { OnOk result (node.new.registry.entries ≡ with_added (added_by (by_rules now node.old.registry.entries (Ok recording))) node.old.registry.entries) }
     ensures nothing { added_by (by_rules now node.old.registry.entries (Ok recording)) ≡ None → (node.new ≡ node.old) × (disk.new ≡ disk.old) × (beat.new ≡ beat.old) }
     ensures err { OnErr result (node.new.registry.entries ≡ node.old.registry.entries) }
     ensures sessions { KeptSessions node.old node.new }
     ensures config { node.new.config ≡ node.old.config }
-    ensures moments { D.told → Moments (LeftAt (D.state disk.old)) (LeftAt (D.state disk.new)) beat.old (MayLeave (added_by (by_rules now node.old.registry.entries (Ok recording))) node.old.registry.entries) }
-    ensures home { result ≢ Err Fault.Disk → HasHome D.told canonical_reading node.new (D.state disk.new) beat.new now }
+    ensures moments { D.observable → Moments (LeftAt (D.state disk.old)) (LeftAt (D.state disk.new)) beat.old (MayLeave (added_by (by_rules now node.old.registry.entries (Ok recording))) node.old.registry.entries) }
+    ensures home { result ≢ Err Fault.Disk → HasHome D.observable canonical_reading node.new (D.state disk.new) beat.new now }
     ensures legal { is_legal canonical_reading node.new.registry.entries ≡ true }
     ensures fault { IfErr result (λ fault. IsFaultOfDoing (added_by (by_rules now node.old.registry.entries (Ok recording))) fault) }
     ensures full { (len : ℕ) → result ≡ Err (Fault.JournalFull len) → (len ≡ length_of node.old.registry.journal) × (length_of node.new.registry.journal ≡ len) }
@@ -98,7 +98,7 @@ pub fn command<D: Disk>(
     disk: &mut D,
     beat: &mut Beat,
 ) -> Result<Reply, Fault>
-    requires home { HasHome D.told canonical_reading node.old (D.state disk.old) beat.old now }
+    requires home { HasHome D.observable canonical_reading node.old (D.state disk.old) beat.old now }
 
     // What is done.
     ensures answered { IfOk result (λ reply. reply ≡ answer_of (doing now node.old.registry.entries command)) }
@@ -109,10 +109,10 @@ pub fn command<D: Disk>(
     ensures config { node.new.config ≡ node.old.config }
 
     // What a crash leaves at each moment.
-    ensures moments { D.told → Moments (LeftAt (D.state disk.old)) (LeftAt (D.state disk.new)) beat.old (MayLeave (added_by (doing now node.old.registry.entries command)) node.old.registry.entries) }
+    ensures moments { D.observable → Moments (LeftAt (D.state disk.old)) (LeftAt (D.state disk.new)) beat.old (MayLeave (added_by (doing now node.old.registry.entries command)) node.old.registry.entries) }
 
     // What stands then.
-    ensures home { result ≢ Err Fault.Disk → HasHome D.told canonical_reading node.new (D.state disk.new) beat.new now }
+    ensures home { result ≢ Err Fault.Disk → HasHome D.observable canonical_reading node.new (D.state disk.new) beat.new now }
     ensures legal { is_legal canonical_reading node.new.registry.entries ≡ true }
 
     // Why it fails.

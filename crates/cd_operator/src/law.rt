@@ -5,16 +5,16 @@ ghost use Rattle.cd_commands.specs.declared.command.Command.{Command};
 ghost use Rattle.cd_commands.specs.declared.command.Command.TheVariants.{Init, SubmitText};
 ghost use Rattle.cd_commands.specs.declared.command.Options.{Options};
 ghost use Rattle.cd_entries.specs.declared.entry.Entry.{Entry};
-ghost use Rattle.cd_filing.specs.Filing.{AreFormed, is_push, with_options};
+ghost use Rattle.cd_submission.specs.Filing.{AreFormed, is_push, with_options};
 ghost use Rattle.cd_grammar.specs.Faults.{Says};
-ghost use Rattle.cd_moves.specs.Rows.{may_record};
-ghost use Rattle.cd_reading.specs.Read.{canonical_reading};
-ghost use Rattle.cd_status.specs.Processes.{latest};
+ghost use Rattle.cd_protocol.specs.Rows.{may_record};
+ghost use Rattle.cd_canonical.specs.Read.{canonical_reading};
+ghost use Rattle.cd_rules.specs.Processes.{latest};
 ghost use Rattle.cd_operator.specs.Doing.{added_by, doing};
 ghost use Rattle.cd_operator.specs.Wanted.{wanted};
 ghost use Rattle.cd_operator.specs.declared.wanted.Recording.{Recording};
 
-use cd_filing::law_of_filings;
+use cd_submission::law_of_filings;
 
 /// What a command adds may be recorded, by the rules of a node. And the rules refuse neither the name and the home of `init` at a node
 /// that has no entry, nor a push that a text says, with any options: what these ask for is done.

@@ -1,17 +1,17 @@
 //! What a command asks of a node.
 ghost use Rattle.std.specs.Prelude.{◌≡◌, IfOk};
-ghost use Rattle.cd_deeds.specs.Stands.{HasFormedOrigin};
-ghost use Rattle.cd_legal.specs.Legal.{is_empty};
+ghost use Rattle.cd_effects.specs.Stands.{HasFormedOrigin};
+ghost use Rattle.cd_rules.specs.Legal.{is_empty};
 ghost use Rattle.cd_operator.specs.Wanted.{next_number, numbered_so, at_home, submission_of, naming_of, wanted};
 
 use crate::filing::{are_built, filed_as, may_wait};
 use crate::reply::{Refused, Reply};
 use cd_ast::{Process, print};
 use cd_book::Book;
+use cd_canonical::Canonical;
 use cd_commands::{Command, Options};
 use cd_entries::Entry;
-use cd_filing::{filled, with_options};
-use cd_reading::Canonical;
+use cd_submission::{filled, with_options};
 use cd_types::{Bytes, Filed, Moment, NoMemory, NodeName, ProcNo};
 use std::alloc::Global;
 

@@ -11,7 +11,7 @@ use crate::{Beat, Failed};
 /// Each changing call raises the beat by one. At the greatest beat it changes nothing and fails.
 pub trait Disk {
     /// It tells its content.
-    ghost told: { Type 0 };
+    ghost observable: { Type 0 };
 
     /// What it tells: what a read gives, and what a crash may leave at each beat.
     ghost state: { Self → DiskState };

@@ -13,7 +13,7 @@ use crate::{Beat, Failed};
 /// Each changing call raises the beat by one. At the greatest beat it changes nothing and fails.
 pub trait Files {
     /// They tell their content.
-    ghost told: { Type 0 };
+    ghost observable: { Type 0 };
 
     /// What they tell: what a read gives of each name, and what a crash may leave at each beat.
     ghost state: { Self → FilesState };

@@ -20,7 +20,7 @@ pub enum ConnectFault {
 /// its counts may stand at the greatest u64, so that nothing has to be kept for it.
 pub trait Lines {
     /// They tell their bytes.
-    ghost told: { Type 0 };
+    ghost observable: { Type 0 };
 
     /// What they tell: the bytes of each session, and the order of the sends.
     ghost traffic: { Self → Traffic };

@@ -19,7 +19,7 @@ pub trait Spawner {
     ghost use Rattle.cd_outside.specs.Spawner.{Child, with_run, with_start, OnFailed};
 
     /// It tells its children.
-    ghost told: { Type 0 };
+    ghost observable: { Type 0 };
 
     /// The commands that it started, in their order.
     ghost children: { Self → List Child };

@@ -8,7 +8,7 @@ use cd_types::Moment;
 /// The time of day.
 pub trait Clock {
     /// It tells the moment that it gives.
-    ghost told: { Type 0 };
+    ghost observable: { Type 0 };
 
     /// That moment, in seconds.
     ghost moment: { Self → ℕ };
@@ -22,7 +22,7 @@ pub trait Clock {
 /// Bytes that come in.
 pub trait Source {
     /// It tells its bytes.
-    ghost told: { Type 0 };
+    ghost observable: { Type 0 };
 
     /// The bytes that it has still to give.
     ghost remaining: { Self → List ℕ };
@@ -45,7 +45,7 @@ pub trait Source {
 /// Bytes that go out.
 pub trait Sink {
     /// It tells its bytes.
-    ghost told: { Type 0 };
+    ghost observable: { Type 0 };
 
     /// The bytes that it took.
     ghost taken: { Self → List ℕ };

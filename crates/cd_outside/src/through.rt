@@ -11,11 +11,11 @@ use crate::{Beat, Disk, Failed};
 
 /// Syncs. At `Ok` a crash leaves what a read gives.
 pub fn sync_now<D: Disk>(disk: &mut D, beat: &mut Beat) -> Result<(), Failed>
-    requires { D.told → last_of (D.state disk.old).calls ≤ beat.old }
-    ensures settled { D.told → OnOk result (IsSettledAs (D.state disk.old).seen (D.state disk.new)) }
-    ensures same { D.told → OnErr result (D.state disk.new ≡ D.state disk.old) }
-    ensures moments { D.told → Moments (LeftAt (D.state disk.old)) (LeftAt (D.state disk.new)) beat.old (IsImage (D.state disk.old).doubt) }
-    ensures order { D.told → last_of (D.state disk.new).calls ≤ beat.new }
+    requires { D.observable → last_of (D.state disk.old).calls ≤ beat.old }
+    ensures settled { D.observable → OnOk result (IsSettledAs (D.state disk.old).seen (D.state disk.new)) }
+    ensures same { D.observable → OnErr result (D.state disk.new ≡ D.state disk.old) }
+    ensures moments { D.observable → Moments (LeftAt (D.state disk.old)) (LeftAt (D.state disk.new)) beat.old (IsImage (D.state disk.old).doubt) }
+    ensures order { D.observable → last_of (D.state disk.new).calls ≤ beat.new }
     ensures beat { beat.old ≤ beat.new }
     ensures later { D.faults disk.old ≤ D.faults disk.new }
     ensures cause { OnErr result (Rose (D.faults disk.old) (D.faults disk.new)) }
@@ -32,12 +32,12 @@ pub fn write_through<D: Disk>(
     bytes: &[u8],
     beat: &mut Beat,
 ) -> Result<(), Failed>
-    requires range { D.told → at ≤ length (D.state disk.old).seen }
-    requires order { D.told → last_of (D.state disk.old).calls ≤ beat.old }
-    requires settled { D.told → (D.state disk.old).doubt ≡ settled (D.state disk.old).seen }
-    ensures settled { D.told → OnOk result (IsSettledAs (overwritten at bytes.now (D.state disk.old).seen) (D.state disk.new)) }
-    ensures moments { D.told → Moments (LeftAt (D.state disk.old)) (LeftAt (D.state disk.new)) beat.old (IsTorn at (length bytes.now) (D.state disk.old).seen) }
-    ensures order { D.told → last_of (D.state disk.new).calls ≤ beat.new }
+    requires range { D.observable → at ≤ length (D.state disk.old).seen }
+    requires order { D.observable → last_of (D.state disk.old).calls ≤ beat.old }
+    requires settled { D.observable → (D.state disk.old).doubt ≡ settled (D.state disk.old).seen }
+    ensures settled { D.observable → OnOk result (IsSettledAs (overwritten at bytes.now (D.state disk.old).seen) (D.state disk.new)) }
+    ensures moments { D.observable → Moments (LeftAt (D.state disk.old)) (LeftAt (D.state disk.new)) beat.old (IsTorn at (length bytes.now) (D.state disk.old).seen) }
+    ensures order { D.observable → last_of (D.state disk.new).calls ≤ beat.new }
     ensures beat { beat.old ≤ beat.new }
     ensures later { D.faults disk.old ≤ D.faults disk.new }
     ensures cause { OnErr result (Rose (D.faults disk.old) (D.faults disk.new)) }

@@ -17,8 +17,8 @@ use Rattle.cd_grammar.specs.Tokens.{tokens_of}
 use Rattle.cd_grammar.specs.Later.{Found, late_faults, IsFirstOf}
 use Rattle.cd_grammar.specs.Faults.{IsRead, Leaves, IsFault, IsFaultOf, resolved, longest_plain, longest_text}
 use Rattle.cd_grammar.specs.Faults as faults
-use Rattle.cd_machine.specs.Machine.{whole}
-use Rattle.cd_machine.specs.Placed.{Placed}
+use Rattle.cd_automaton.specs.Machine.{whole}
+use Rattle.cd_automaton.specs.Placed.{Placed}
 use Rattle.cd_parser.specs.declared.fault.ParseFault.{ParseFault}
 use Rattle.cd_parser.specs.declared.fault.ParseFault.TheVariants.{Text, NoMemory}
 use Rattle.cd_parser.specs.Lexed.{lexed, unresolved}

@@ -7,8 +7,8 @@ use Rattle.cd_grammar.specs.declared.step.Step.{Step}
 use Rattle.cd_grammar.specs.Answers.{strict}
 use Rattle.cd_grammar.specs.Reading.{Reading}
 use Rattle.cd_grammar.specs.Later.{Found}
-use Rattle.cd_machine.specs.State.{State}
-use Rattle.cd_machine.specs.Machine.{bare_turn}
+use Rattle.cd_automaton.specs.State.{State}
+use Rattle.cd_automaton.specs.Machine.{bare_turn}
 use Rattle.cd_parser.specs.Runs.{reads, onward}
 
 -- such a word leads to a state

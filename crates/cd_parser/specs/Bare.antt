@@ -5,8 +5,8 @@ use Rattle.cd_grammar.specs.declared.token.Token.{Token}
 use Rattle.cd_grammar.specs.declared.given.Given.{Given}
 use Rattle.cd_grammar.specs.declared.step.Step.{Step}
 use Rattle.cd_grammar.specs.Reading.{Reading}
-use Rattle.cd_machine.specs.State.{State}
-use Rattle.cd_machine.specs.State.{At}
+use Rattle.cd_automaton.specs.State.{State}
+use Rattle.cd_automaton.specs.State.{At}
 use Rattle.cd_parser.specs.declared.turn.Bare as bares
 use Rattle.cd_parser.specs.declared.turn.Bare.TheVariants as bare
 use Rattle.cd_parser.specs.declared.turn.Sided as sides

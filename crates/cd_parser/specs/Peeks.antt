@@ -5,7 +5,7 @@ use Rattle.cd_grammar.specs.declared.token.Key.TheVariants as key
 use Rattle.cd_grammar.specs.declared.token.Sign.TheVariants as sign
 use Rattle.cd_grammar.specs.declared.token.Token.{Token}
 use Rattle.cd_grammar.specs.declared.token.Token.TheVariants.{Word, Quoted, Mark}
-use Rattle.cd_machine.specs.Machine.{is_equals}
+use Rattle.cd_automaton.specs.Machine.{is_equals}
 use Rattle.cd_parser.specs.declared.value.Extra as extras
 use Rattle.cd_parser.specs.declared.value.Extra.TheVariants as extra
 

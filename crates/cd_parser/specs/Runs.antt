@@ -12,9 +12,9 @@ use Rattle.cd_grammar.specs.declared.step.Step.{Step}
 use Rattle.cd_grammar.specs.declared.given.Slot.{Slot}
 use Rattle.cd_grammar.specs.Reading.{Reading, stored, given_of, with_given}
 use Rattle.cd_grammar.specs.Later.{Found}
-use Rattle.cd_machine.specs.State.{State}
-use Rattle.cd_machine.specs.State.{At, Ended}
-use Rattle.cd_machine.specs.Machine.{Turn, bind_turn, run, with_place}
+use Rattle.cd_automaton.specs.State.{State}
+use Rattle.cd_automaton.specs.State.{At, Ended}
+use Rattle.cd_automaton.specs.Machine.{Turn, bind_turn, run, with_place}
 use Rattle.cd_parser.specs.declared.statement.Turn as turns
 use Rattle.cd_parser.specs.declared.statement.Turn.TheVariants as turn
 use Rattle.cd_parser.specs.declared.fault.ParseFault.{ParseFault}

@@ -3,7 +3,7 @@ ghost use Rattle.std.specs.Prelude.{◌≡◌, true};
 ghost use Rattle.cd_grammar.specs.Answers.{taken};
 ghost use Rattle.cd_grammar.specs.Tokens.{place_of};
 ghost use Rattle.cd_grammar.specs.Values.{label_in, front_label_in};
-ghost use Rattle.cd_machine.specs.Machine.{behind_open, behind_close, behind_equals, with_place};
+ghost use Rattle.cd_automaton.specs.Machine.{behind_open, behind_close, behind_equals, with_place};
 
 use crate::fault::Found;
 use cd_ast::FaultName;

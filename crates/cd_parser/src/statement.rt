@@ -9,8 +9,8 @@ ghost use Rattle.cd_grammar.specs.declared.mark.Sketch.TheVariants as sketch;
 ghost use Rattle.cd_grammar.specs.declared.step.Step.TheVariants as step;
 ghost use Rattle.cd_ast.specs.declared.process.What.TheVariants as what;
 ghost use Rattle.cd_types.specs.declared.choices.Relation.{Relation};
-ghost use Rattle.cd_machine.specs.State.{At, Labelled, Running, IfOpen, IfLabel, IfRelation, IfClose, GotoLabel};
-ghost use Rattle.cd_machine.specs.Machine.{verb_turn, statement_turn, label_move, if_label_move, goto_turn, roomy};
+ghost use Rattle.cd_automaton.specs.State.{At, Labelled, Running, IfOpen, IfLabel, IfRelation, IfClose, GotoLabel};
+ghost use Rattle.cd_automaton.specs.Machine.{verb_turn, statement_turn, label_move, if_label_move, goto_turn, roomy};
 ghost use Rattle.cd_parser.specs.Runs.{Tells, Leads, reads, onward, opened_if};
 
 use crate::ParseFault;
@@ -86,7 +86,7 @@ fn bare_copy<'a>() -> CopyGiven<'a>
 }
 
 /// Behind RUN: TASK or JOB.
-#[tactic(auto, unfolding(cd_machine::specs::Machine::run, cd_machine::specs::Machine::next))]
+#[tactic(auto, unfolding(cd_automaton::specs::Machine::run, cd_automaton::specs::Machine::next))]
 fn running<'t, 'a>(len: u32, begun: Begun, tokens: &mut Cursor<'t, 'a>) -> Result<Step<'a>, Found>
     ensures ok { IfOk result (λ p. (r : Reading) → reads len r (Running begun) tokens.old ≡ reads len r (At p) tokens.new) }
     ensures err { IfErr result (λ f. (r : Reading) → reads len r (Running begun) tokens.old ≡ Err f) }
@@ -103,7 +103,7 @@ fn running<'t, 'a>(len: u32, begun: Begun, tokens: &mut Cursor<'t, 'a>) -> Resul
 }
 
 /// Behind IF: an opening parenthesis.
-#[tactic(auto, unfolding(cd_machine::specs::Machine::run, cd_machine::specs::Machine::next))]
+#[tactic(auto, unfolding(cd_automaton::specs::Machine::run, cd_automaton::specs::Machine::next))]
 fn if_open<'t, 'a>(len: u32, tokens: &mut Cursor<'t, 'a>) -> Result<(), Found>
     ensures ok { IfOk result (λ _. (r : Reading) (begun : Begun) → reads len r (IfOpen begun) tokens.old ≡ reads len r (IfLabel begun) tokens.new) }
     ensures err { IfErr result (λ f. (r : Reading) (begun : Begun) → reads len r (IfOpen begun) tokens.old ≡ Err f) }
@@ -131,7 +131,7 @@ fn target(token: &Token<'_>) -> Result<(u32, Label), Found>
 }
 
 /// Behind an IF's label: a relation and a number.
-#[tactic(auto, unfolding(cd_machine::specs::Machine::run, cd_machine::specs::Machine::next))]
+#[tactic(auto, unfolding(cd_automaton::specs::Machine::run, cd_automaton::specs::Machine::next))]
 fn if_number<'t, 'a>(len: u32, tokens: &mut Cursor<'t, 'a>) -> Result<(Relation, u8), Found>
     ensures ok { IfOk result (λ p. (r : Reading) (begun : Begun) (at : ℕ) (name : List ℕ) → reads len r (IfRelation begun at name) tokens.old ≡ reads len r (IfClose begun at name p.0 p.1) tokens.new) }
     ensures err { IfErr result (λ f. (r : Reading) (begun : Begun) (at : ℕ) (name : List ℕ) → reads len r (IfRelation begun at name) tokens.old ≡ Err f) }
@@ -152,7 +152,7 @@ fn if_number<'t, 'a>(len: u32, tokens: &mut Cursor<'t, 'a>) -> Result<(Relation,
 }
 
 /// Behind an IF's number: a closing parenthesis and THEN.
-#[tactic(auto, unfolding(cd_machine::specs::Machine::run, cd_machine::specs::Machine::next))]
+#[tactic(auto, unfolding(cd_automaton::specs::Machine::run, cd_automaton::specs::Machine::next))]
 fn if_then<'t, 'a>(len: u32, tokens: &mut Cursor<'t, 'a>) -> Result<(), Found>
     ensures ok { IfOk result (λ _. (r : Reading) (begun : Begun) (at : ℕ) (name : List ℕ) (rel : Relation) (n : ℕ) → reads len r (IfClose begun at name rel n) tokens.old ≡ reads len (opened_if r begun at name rel n) (At step.Between) tokens.new) }
     ensures err { IfErr result (λ f. (r : Reading) (begun : Begun) (at : ℕ) (name : List ℕ) (rel : Relation) (n : ℕ) → reads len r (IfClose begun at name rel n) tokens.old ≡ Err f) }
@@ -171,7 +171,7 @@ fn if_then<'t, 'a>(len: u32, tokens: &mut Cursor<'t, 'a>) -> Result<(), Found>
 }
 
 /// Behind the word IF.
-#[tactic(auto, unfolding(cd_machine::specs::Machine::run, cd_machine::specs::Machine::next))]
+#[tactic(auto, unfolding(cd_automaton::specs::Machine::run, cd_automaton::specs::Machine::next))]
 fn condition<'t, 'a>(
     reader: &mut Reader<'a>,
     len: u32,
@@ -192,7 +192,7 @@ fn condition<'t, 'a>(
 }
 
 /// Behind the word GOTO.
-#[tactic(auto, unfolding(cd_machine::specs::Machine::run, cd_machine::specs::Machine::next))]
+#[tactic(auto, unfolding(cd_automaton::specs::Machine::run, cd_automaton::specs::Machine::next))]
 fn jump<'t, 'a>(
     reader: &mut Reader<'a>,
     len: u32,
@@ -221,7 +221,7 @@ fn roomy(reader: &Reader<'_>) -> Result<(), Found>
 }
 
 /// Behind a keyword that may stand behind a label; the label is told, if there is one, and the keyword's place.
-#[tactic(auto, unfolding(cd_machine::specs::Machine::verb_turn))]
+#[tactic(auto, unfolding(cd_automaton::specs::Machine::verb_turn))]
 pub(crate) fn verb<'t, 'a>(
     reader: &mut Reader<'a>,
     len: u32,
@@ -272,7 +272,7 @@ pub(crate) fn verb<'t, 'a>(
 }
 
 /// Behind a statement's label: its keyword.
-#[tactic(auto, unfolding(cd_machine::specs::Machine::run, cd_machine::specs::Machine::next))]
+#[tactic(auto, unfolding(cd_automaton::specs::Machine::run, cd_automaton::specs::Machine::next))]
 fn labelled<'t, 'a>(
     reader: &mut Reader<'a>,
     len: u32,
@@ -313,7 +313,7 @@ fn labelled_at<'t, 'a>(
 }
 
 /// At a word at which a statement may begin, and behind it these tokens.
-#[tactic(auto, unfolding(cd_machine::specs::Machine::statement_turn))]
+#[tactic(auto, unfolding(cd_automaton::specs::Machine::statement_turn))]
 pub(crate) fn statement<'t, 'a>(
     reader: &mut Reader<'a>,
     len: u32,

@@ -10,10 +10,10 @@ use crate::ParseFault;
 use crate::classify::classify;
 use crate::turn::read;
 use cd_ast::Process;
-use cd_lexer::{defaults, law_of_tokens, substitute, tokens};
-use cd_machine::{
+use cd_automaton::{
     law_of_machine, law_of_resolved_texts, law_of_texts, law_of_tokens as law_of_places,
 };
+use cd_lexer::{defaults, law_of_tokens, substitute, tokens};
 use cd_types::Symbols;
 use std::alloc::Global;
 

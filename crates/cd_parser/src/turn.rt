@@ -9,8 +9,8 @@ ghost use Rattle.cd_grammar.specs.Answers.{strict, taken};
 ghost use Rattle.cd_grammar.specs.Given.{side_of, nothing};
 ghost use Rattle.cd_grammar.specs.Grammar.{end_in};
 ghost use Rattle.cd_grammar.specs.Reading.{Reading, named, ended, slot_of, given_of, takes_symbols, end_of, with_end};
-ghost use Rattle.cd_machine.specs.State.{At, Named, Ended, Closed};
-ghost use Rattle.cd_machine.specs.Machine.{free, sided, bare_state, copy_state, is_opener, is_symbolic, ended_turn, statement_turn, bare_turn, slot_turn, mark_move, ended_move, with_place, titled, whole};
+ghost use Rattle.cd_automaton.specs.State.{At, Named, Ended, Closed};
+ghost use Rattle.cd_automaton.specs.Machine.{free, sided, bare_state, copy_state, is_opener, is_symbolic, ended_turn, statement_turn, bare_turn, slot_turn, mark_move, ended_move, with_place, titled, whole};
 ghost use Rattle.cd_parser.specs.Runs.{Tells, Leads, reads, onward};
 ghost use Rattle.cd_parser.specs.Bare.{IsBare, IsSided};
 
@@ -63,7 +63,7 @@ fn with_end<'a>(copy: CopyGiven<'a>, end: End, given: Given<'a>) -> CopyGiven<'a
 }
 
 /// Whether a word begins a statement or ends the Process.
-#[tactic(auto, unfolding(cd_machine::specs::Machine::is_opener))]
+#[tactic(auto, unfolding(cd_automaton::specs::Machine::is_opener))]
 fn is_opener(key: Key) -> bool
     ensures { result ≡ is_opener key }
 {
@@ -140,7 +140,7 @@ fn with_side<'a>(given: Given<'a>, key: Key) -> Sided<'a>
 }
 
 /// A word that stands alone in a COPY, before these tokens: FROM, TO or COMPRESS.
-#[tactic(auto, unfolding(cd_machine::specs::Machine::run, cd_machine::specs::Machine::next, cd_machine::specs::Machine::compress_by))]
+#[tactic(auto, unfolding(cd_automaton::specs::Machine::run, cd_automaton::specs::Machine::next, cd_automaton::specs::Machine::compress_by))]
 fn bare_in_copy<'t, 'a>(
     len: u32,
     begun: Begun,
@@ -170,7 +170,7 @@ fn bare_in_copy<'t, 'a>(
 }
 
 /// A word that stands alone where a parameter may stand, before these tokens.
-#[tactic(auto, unfolding(cd_machine::specs::Machine::bare_state))]
+#[tactic(auto, unfolding(cd_automaton::specs::Machine::bare_state))]
 fn lone_word<'t, 'a>(
     len: u32,
     step: Step<'a>,
@@ -222,7 +222,7 @@ fn behind<'t, 'a>(
 }
 
 /// Behind a word that names a parameter: its `=` and its value, or the keyword whose label it is.
-#[tactic(auto, unfolding(cd_machine::specs::Machine::run, cd_machine::specs::Machine::next))]
+#[tactic(auto, unfolding(cd_automaton::specs::Machine::run, cd_automaton::specs::Machine::next))]
 fn named<'t, 'a>(
     reader: &mut Reader<'a>,
     len: u32,
@@ -315,7 +315,7 @@ fn parameter<'t, 'a>(
 }
 
 /// A sign where a parameter may stand.
-#[tactic(auto, unfolding(cd_machine::specs::Machine::mark_move))]
+#[tactic(auto, unfolding(cd_automaton::specs::Machine::mark_move))]
 fn marked<'a>(step: Step<'a>, at: u32, sign: Sign) -> Result<Step<'a>, Found>
     ensures ok { IfOk result (λ s. mark_move step.entry at sign ≡ Ok (At s)) }
     ensures err { IfErr result (λ f. mark_move step.entry at sign ≡ Err f) }
@@ -334,7 +334,7 @@ fn marked<'a>(step: Step<'a>, at: u32, sign: Sign) -> Result<Step<'a>, Found>
 }
 
 /// The first token where a parameter may stand.
-#[tactic(auto, unfolding(cd_machine::specs::Machine::run, cd_machine::specs::Machine::next, cd_machine::specs::Machine::word_turn))]
+#[tactic(auto, unfolding(cd_automaton::specs::Machine::run, cd_automaton::specs::Machine::next, cd_automaton::specs::Machine::word_turn))]
 fn token_turn<'t, 'a>(
     reader: &mut Reader<'a>,
     len: u32,
@@ -364,7 +364,7 @@ fn token_turn<'t, 'a>(
 }
 
 /// Behind PEND: nothing, or a `;` and then nothing.
-#[tactic(auto, unfolding(cd_machine::specs::Machine::run, cd_machine::specs::Machine::next))]
+#[tactic(auto, unfolding(cd_automaton::specs::Machine::run, cd_automaton::specs::Machine::next))]
 fn ending(tokens: &mut Cursor<'_, '_>) -> Result<(), Found>
     ensures ok { OnOk result ((len : ℕ) (r : Reading) → reads len r Ended tokens.old ≡ Ok r) }
     ensures err { IfErr result (λ f. (len : ℕ) (r : Reading) → reads len r Ended tokens.old ≡ Err f) }
@@ -428,7 +428,7 @@ fn behind_name<'t, 'a>(len: u32, tokens: &mut Cursor<'t, 'a>) -> Result<(), Foun
 }
 
 /// The Process's name.
-#[tactic(auto, unfolding(cd_machine::specs::Machine::whole))]
+#[tactic(auto, unfolding(cd_automaton::specs::Machine::whole))]
 fn name_at(token: &Token<'_>) -> Result<Label, Found>
     ensures ok { IfOk result (λ name. (len : ℕ) (rest : List Token) → whole strict len (token.now ∷ rest) ≡ titled strict len (Ok name) (place_of token.now) rest) }
     ensures err { IfErr result (λ f. (len : ℕ) (rest : List Token) → whole strict len (token.now ∷ rest) ≡ Err f) }
@@ -440,7 +440,7 @@ fn name_at(token: &Token<'_>) -> Result<Label, Found>
 }
 
 /// What the tokens of a text of this length say.
-#[tactic(auto, unfolding(cd_machine::specs::Machine::whole))]
+#[tactic(auto, unfolding(cd_automaton::specs::Machine::whole))]
 pub(crate) fn read<'t, 'a>(
     alloc: Global,
     len: u32,

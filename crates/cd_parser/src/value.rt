@@ -11,8 +11,8 @@ ghost use Rattle.cd_grammar.specs.Answers.{strict};
 ghost use Rattle.cd_grammar.specs.Starts.{clock_in, half_in};
 ghost use Rattle.cd_grammar.specs.Grammar.{started};
 ghost use Rattle.cd_grammar.specs.Reading.{Reading, given_of};
-ghost use Rattle.cd_machine.specs.State.{At, Value, Closing, Values, Parenthesized, Symbol, Starting, Dated, Timing, Timed, Compress, Prime, Extended, Pairs, PairNamed};
-ghost use Rattle.cd_machine.specs.Machine.{kept, time_move, half_move, open_move};
+ghost use Rattle.cd_automaton.specs.State.{At, Value, Closing, Values, Parenthesized, Symbol, Starting, Dated, Timing, Timed, Compress, Prime, Extended, Pairs, PairNamed};
+ghost use Rattle.cd_automaton.specs.Machine.{kept, time_move, half_move, open_move};
 ghost use Rattle.cd_parser.specs.Runs.{Tells, reads, onward, valued};
 ghost use Rattle.cd_parser.specs.Peeks.{IsQuoted, IsEquals, IsExtra};
 
@@ -38,7 +38,7 @@ fn with_token<'a>(step: Step<'a>, slot: Slot, at: u32, token: &Token<'a>) -> Res
 }
 
 /// Behind the closing parenthesis that stands next.
-#[tactic(auto, unfolding(cd_machine::specs::Machine::run, cd_machine::specs::Machine::next))]
+#[tactic(auto, unfolding(cd_automaton::specs::Machine::run, cd_automaton::specs::Machine::next))]
 fn closed<'t, 'a>(len: u32, tokens: &mut Cursor<'t, 'a>) -> Result<(), Found>
     ensures ok { IfOk result (λ _. (r : Reading) (s : Step) → reads len r (Closing s) tokens.old ≡ reads len r (At s) tokens.new) }
     ensures err { IfErr result (λ f. (r : Reading) (s : Step) → reads len r (Closing s) tokens.old ≡ Err f) }
@@ -50,7 +50,7 @@ fn closed<'t, 'a>(len: u32, tokens: &mut Cursor<'t, 'a>) -> Result<(), Found>
 }
 
 /// Behind a list of values.
-#[tactic(auto, unfolding(cd_machine::specs::Machine::run, cd_machine::specs::Machine::next))]
+#[tactic(auto, unfolding(cd_automaton::specs::Machine::run, cd_automaton::specs::Machine::next))]
 fn listed<'t, 'a>(len: u32, tokens: &mut Cursor<'t, 'a>) -> Result<(), Found>
     ensures ok { IfOk result (λ _. (r : Reading) (s : Step) → reads len r (Values s) tokens.old ≡ reads len r (At s) tokens.new) }
     ensures err { IfErr result (λ f. (r : Reading) (s : Step) → reads len r (Values s) tokens.old ≡ Err f) }
@@ -75,7 +75,7 @@ fn started<'a>(given: Given<'a>, day: Day, seconds: u32) -> Given<'a>
 }
 
 /// A time in a half of the day, which the word at this place names behind a time as it is written.
-#[tactic(auto, unfolding(cd_machine::specs::Machine::next))]
+#[tactic(auto, unfolding(cd_automaton::specs::Machine::next))]
 fn half_at(at: u32, clock: Option<Clock>, word: &Lent<'_>) -> Result<u32, Found>
     ensures ok { IfOk result (λ seconds. (given : Given) (day : Day) → half_move strict given day at clock (half_in word.now) ≡ Ok (Closing (step.Head (started given day seconds)))) }
     ensures err { IfErr result (λ f. (given : Given) (day : Day) → half_move strict given day at clock (half_in word.now) ≡ Err f) }
@@ -90,7 +90,7 @@ fn half_at(at: u32, clock: Option<Clock>, word: &Lent<'_>) -> Result<u32, Found>
 }
 
 /// Behind a time: what it is at last, and what stands behind the closing parenthesis.
-#[tactic(auto, unfolding(cd_machine::specs::Machine::run, cd_machine::specs::Machine::next))]
+#[tactic(auto, unfolding(cd_automaton::specs::Machine::run, cd_automaton::specs::Machine::next))]
 fn behind_time<'t, 'a>(
     len: u32,
     clock: Option<Clock>,
@@ -133,7 +133,7 @@ fn time_at(at: u32, word: &Lent<'_>) -> Result<(Option<Clock>, u32), Found>
 }
 
 /// Before a time of STARTT: the time, and what stands behind the closing parenthesis.
-#[tactic(auto, unfolding(cd_machine::specs::Machine::run, cd_machine::specs::Machine::next))]
+#[tactic(auto, unfolding(cd_automaton::specs::Machine::run, cd_automaton::specs::Machine::next))]
 fn timing<'t, 'a>(len: u32, tokens: &mut Cursor<'t, 'a>) -> Result<u32, Found>
     ensures ok { IfOk result (λ p. (r : Reading) (given : Given) (day : Day) → reads len r (Timing given day) tokens.old ≡ reads len r (At (step.Head (started given day p))) tokens.new) }
     ensures err { IfErr result (λ f. (r : Reading) (given : Given) (day : Day) → reads len r (Timing given day) tokens.old ≡ Err f) }
@@ -151,7 +151,7 @@ fn timing<'t, 'a>(len: u32, tokens: &mut Cursor<'t, 'a>) -> Result<u32, Found>
 }
 
 /// Behind a day of STARTT: the time, and what stands behind the closing parenthesis.
-#[tactic(auto, unfolding(cd_machine::specs::Machine::run, cd_machine::specs::Machine::next))]
+#[tactic(auto, unfolding(cd_automaton::specs::Machine::run, cd_automaton::specs::Machine::next))]
 fn dated<'t, 'a>(len: u32, tokens: &mut Cursor<'t, 'a>) -> Result<u32, Found>
     ensures ok { IfOk result (λ p. (r : Reading) (given : Given) (day : Day) → reads len r (Dated given day) tokens.old ≡ reads len r (At (step.Head (started given day p))) tokens.new) }
     ensures err { IfErr result (λ f. (r : Reading) (given : Given) (day : Day) → reads len r (Dated given day) tokens.old ≡ Err f) }
@@ -172,7 +172,7 @@ fn dated<'t, 'a>(len: u32, tokens: &mut Cursor<'t, 'a>) -> Result<u32, Found>
 }
 
 /// In the parentheses of STARTT: the day, the time, and what stands behind the closing parenthesis.
-#[tactic(auto, unfolding(cd_machine::specs::Machine::run, cd_machine::specs::Machine::next))]
+#[tactic(auto, unfolding(cd_automaton::specs::Machine::run, cd_automaton::specs::Machine::next))]
 fn starting<'t, 'a>(len: u32, tokens: &mut Cursor<'t, 'a>) -> Result<(Day, u32), Found>
     ensures ok { IfOk result (λ p. (r : Reading) (given : Given) → reads len r (Starting given) tokens.old ≡ reads len r (At (step.Head (started given p.0 p.1))) tokens.new) }
     ensures err { IfErr result (λ f. (r : Reading) (given : Given) → reads len r (Starting given) tokens.old ≡ Err f) }
@@ -199,7 +199,7 @@ fn starting<'t, 'a>(len: u32, tokens: &mut Cursor<'t, 'a>) -> Result<(Day, u32),
 }
 
 /// A value in parentheses, behind the opening one.
-#[tactic(auto, unfolding(cd_machine::specs::Machine::run, cd_machine::specs::Machine::next))]
+#[tactic(auto, unfolding(cd_automaton::specs::Machine::run, cd_automaton::specs::Machine::next))]
 fn parenthesized<'t, 'a>(
     len: u32,
     step: Step<'a>,
@@ -233,7 +233,7 @@ fn given_of<'a>(step: Step<'a>) -> Given<'a>
 }
 
 /// Behind an opening parenthesis in the place of a value.
-#[tactic(auto, unfolding(cd_machine::specs::Machine::open_move))]
+#[tactic(auto, unfolding(cd_automaton::specs::Machine::open_move))]
 fn opened<'t, 'a>(
     len: u32,
     step: Step<'a>,
@@ -262,7 +262,7 @@ fn opened<'t, 'a>(
 }
 
 /// The value of the parameter whose word stands at this place.
-#[tactic(auto, unfolding(cd_machine::specs::Machine::run, cd_machine::specs::Machine::next, cd_machine::specs::Machine::value_move))]
+#[tactic(auto, unfolding(cd_automaton::specs::Machine::run, cd_automaton::specs::Machine::next, cd_automaton::specs::Machine::value_move))]
 pub(crate) fn value<'t, 'a>(
     len: u32,
     step: Step<'a>,
@@ -295,7 +295,7 @@ pub(crate) fn value<'t, 'a>(
 }
 
 /// Behind a symbolic name: its `=` and its value.
-#[tactic(auto, unfolding(cd_machine::specs::Machine::run, cd_machine::specs::Machine::next))]
+#[tactic(auto, unfolding(cd_automaton::specs::Machine::run, cd_automaton::specs::Machine::next))]
 pub(crate) fn symbol<'t, 'a>(
     reader: &mut Reader<'a>,
     len: u32,
@@ -320,7 +320,7 @@ pub(crate) fn symbol<'t, 'a>(
 }
 
 /// In a list of pairs of COMPRESS: what stands behind it.
-#[tactic(auto, unfolding(cd_machine::specs::Machine::run, cd_machine::specs::Machine::next))]
+#[tactic(auto, unfolding(cd_automaton::specs::Machine::run, cd_automaton::specs::Machine::next))]
 fn pair<'t, 'a>(len: u32, tokens: &mut Cursor<'t, 'a>) -> Result<(), Found>
     ensures ok { IfOk result (λ _. (r : Reading) (s : Step) → reads len r (PairNamed s) tokens.old ≡ reads len r (Pairs s) tokens.new) }
     ensures err { IfErr result (λ f. (r : Reading) (s : Step) → reads len r (PairNamed s) tokens.old ≡ Err f) }
@@ -336,7 +336,7 @@ fn pair<'t, 'a>(len: u32, tokens: &mut Cursor<'t, 'a>) -> Result<(), Found>
 }
 
 /// In a list of pairs of COMPRESS: what stands behind it.
-#[tactic(auto, unfolding(cd_machine::specs::Machine::run, cd_machine::specs::Machine::next))]
+#[tactic(auto, unfolding(cd_automaton::specs::Machine::run, cd_automaton::specs::Machine::next))]
 fn pairs<'t, 'a>(len: u32, tokens: &mut Cursor<'t, 'a>) -> Result<(), Found>
     ensures ok { IfOk result (λ _. (r : Reading) (s : Step) → reads len r (Pairs s) tokens.old ≡ reads len r (At s) tokens.new) }
     ensures err { IfErr result (λ f. (r : Reading) (s : Step) → reads len r (Pairs s) tokens.old ≡ Err f) }
@@ -396,7 +396,7 @@ fn extra_at(token: Option<&Token<'_>>) -> Extra
 }
 
 /// Behind COMPRESS PRIMECHAR: its `=` and its word, and what goes with them.
-#[tactic(auto, unfolding(cd_machine::specs::Machine::run, cd_machine::specs::Machine::next))]
+#[tactic(auto, unfolding(cd_automaton::specs::Machine::run, cd_automaton::specs::Machine::next))]
 fn primed<'t, 'a>(len: u32, tokens: &mut Cursor<'t, 'a>) -> Result<(), Found>
     ensures ok { IfOk result (λ _. (r : Reading) (begun : Begun) (copy : CopyGiven) → reads len r (Prime begun copy) tokens.old ≡ reads len r (At (step.Copy begun copy)) tokens.new) }
     ensures err { IfErr result (λ f. (r : Reading) (begun : Begun) (copy : CopyGiven) → reads len r (Prime begun copy) tokens.old ≡ Err f) }
@@ -416,7 +416,7 @@ fn primed<'t, 'a>(len: u32, tokens: &mut Cursor<'t, 'a>) -> Result<(), Found>
 }
 
 /// Behind COMPRESS EXTENDED: its pairs, if there are any.
-#[tactic(auto, unfolding(cd_machine::specs::Machine::run, cd_machine::specs::Machine::next))]
+#[tactic(auto, unfolding(cd_automaton::specs::Machine::run, cd_automaton::specs::Machine::next))]
 fn extended<'t, 'a>(len: u32, tokens: &mut Cursor<'t, 'a>) -> Result<(), Found>
     ensures ok { IfOk result (λ _. (r : Reading) (begun : Begun) (copy : CopyGiven) → reads len r (Extended begun copy) tokens.old ≡ reads len r (At (step.Copy begun copy)) tokens.new) }
     ensures err { IfErr result (λ f. (r : Reading) (begun : Begun) (copy : CopyGiven) → reads len r (Extended begun copy) tokens.old ≡ Err f) }
@@ -433,7 +433,7 @@ fn extended<'t, 'a>(len: u32, tokens: &mut Cursor<'t, 'a>) -> Result<(), Found>
 }
 
 /// Behind COMPRESS: what goes with it.
-#[tactic(auto, unfolding(cd_machine::specs::Machine::run, cd_machine::specs::Machine::next))]
+#[tactic(auto, unfolding(cd_automaton::specs::Machine::run, cd_automaton::specs::Machine::next))]
 pub(crate) fn compressed<'t, 'a>(len: u32, tokens: &mut Cursor<'t, 'a>) -> Result<(), Found>
     ensures ok { IfOk result (λ _. (r : Reading) (begun : Begun) (copy : CopyGiven) → reads len r (Compress begun copy) tokens.old ≡ reads len r (At (step.Copy begun copy)) tokens.new) }
     ensures err { IfErr result (λ f. (r : Reading) (begun : Begun) (copy : CopyGiven) → reads len r (Compress begun copy) tokens.old ≡ Err f) }

@@ -1,4 +1,2 @@
-pub mod CountLaw
 pub mod Piece
-pub mod PieceLaw
 pub mod Sending

@@ -6,23 +6,23 @@ use Rattle.cd_outside.specs.Counts.{Rose}
 use Rattle.cd_outside.specs.Lines.{Traffic}
 use Rattle.cd_outside.specs.declared.sid.Sid.{Sid}
 use Rattle.cd_frames.specs.Reading.{Reading}
-use Rattle.cd_legal.specs.Steps as steps
-use Rattle.cd_moves.specs.Node.{Node}
-use Rattle.cd_moves.specs.declared.session.Phase.{Phase}
-use Rattle.cd_moves.specs.declared.session.Phase.TheVariants.{Gone}
-use Rattle.cd_deeds.specs.Joint.{NodeImage}
-use Rattle.cd_deeds.specs.declared.fault.Fault.{Fault}
-use Rattle.cd_node.specs.Sessions.{IsAt}
-use Rattle.cd_node.specs.declared.session.Session.{Session}
-use Rattle.cd_handling.specs.Crash.{TurnLeaves}
+use Rattle.cd_rules.specs.Steps as steps
+use Rattle.cd_protocol.specs.Node.{Node}
+use Rattle.cd_protocol.specs.declared.session.Phase.{Phase}
+use Rattle.cd_protocol.specs.declared.session.Phase.TheVariants.{Gone}
+use Rattle.cd_effects.specs.Joint.{NodeImage}
+use Rattle.cd_effects.specs.declared.fault.Fault.{Fault}
+use Rattle.cd_exchange.specs.Sessions.{IsAt}
+use Rattle.cd_exchange.specs.declared.session.Session.{Session}
+use Rattle.cd_exchange.specs.Crash.{TurnLeaves}
 use Rattle.cd_plain.specs.Crash.{NodeLeaves}
-use Rattle.cd_handling.specs.Arriving.{TookOfOne}
+use Rattle.cd_exchange.specs.Arriving.{TookOfOne}
 use Rattle.cd_plain.specs.NodeState.{NodeState, HasSessions, AreRising, AreRead, WasRead}
-use Rattle.cd_handling.specs.Setting.{setting_of}
-use Rattle.cd_handling.specs.Turn.{MayBeLost, TookTurn, TurnFailed}
+use Rattle.cd_exchange.specs.Setting.{setting_of}
+use Rattle.cd_exchange.specs.Turn.{MayBeLost, TookTurn, TurnFailed}
 use Rattle.cd_plain.specs.Turned.{handled_of, in_phase, others_at, place_of, spot_of, Told, HadTurn, FailedTurn}
-use Rattle.cd_handling.specs.declared.ending.Ending.{Ending}
-use Rattle.cd_handling.specs.declared.ending.Ending.TheVariants as an_ending
+use Rattle.cd_exchange.specs.declared.ending.Ending.{Ending}
+use Rattle.cd_exchange.specs.declared.ending.Ending.TheVariants as an_ending
 use Rattle.cd_plain.proofs.Places.{get_set, rising_set, read_at, read_phase, read_same, read_set}
 use Rattle.cd_plain.proofs.Reading.{turn_read, turn_others}
 

@@ -12,21 +12,21 @@ use Rattle.cd_types.specs.declared.rows.Row.{Row}
 use Rattle.cd_entries.specs.declared.entry.Entry.{Entry}
 use Rattle.cd_entries.specs.declared.entry.Entry.TheVariants as entry
 use Rattle.cd_outside.specs.declared.sid.Sid.{Sid}
-use Rattle.cd_status.specs.Processes.{moment_of}
-use Rattle.cd_status.specs.Queue.{Waits, after_wait, after_attempts, retried, next_due}
-use Rattle.cd_legal.specs.Legal.{allowed, is_legal}
-use Rattle.cd_legal.specs.Steps.{Reading}
-use Rattle.cd_moves.specs.Closing.{own_number}
-use Rattle.cd_moves.specs.Node.{Desk, Node, Deed, does}
-use Rattle.cd_moves.specs.Promises.{StaysLegal}
-use Rattle.cd_moves.specs.Rows.{is_by, is_formed, may_record, place_in, opened, row_accept, busy, call, row_chosen, row_choose}
-use Rattle.cd_moves.specs.declared.session.Phase.{Phase}
-use Rattle.cd_moves.specs.declared.session.Phase.TheVariants.{Fresh}
-use Rattle.cd_deeds.specs.declared.holders.Holding.{Holding}
-use Rattle.cd_deeds.specs.Stands.{holder_of}
-use Rattle.cd_node.specs.Sessions.{phase_among}
-use Rattle.cd_node.specs.declared.session.Session.{Session}
-use Rattle.cd_parts.specs.Desk.{desk_of}
+use Rattle.cd_rules.specs.Processes.{moment_of}
+use Rattle.cd_rules.specs.Queue.{Waits, after_wait, after_attempts, retried, next_due}
+use Rattle.cd_rules.specs.Legal.{allowed, is_legal}
+use Rattle.cd_rules.specs.Steps.{Reading}
+use Rattle.cd_protocol.specs.Closing.{own_number}
+use Rattle.cd_protocol.specs.Node.{NodeView, Node, Effect, does}
+use Rattle.cd_protocol.specs.Promises.{StaysLegal}
+use Rattle.cd_protocol.specs.Rows.{is_by, is_formed, may_record, place_in, opened, row_accept, busy, call, row_chosen, row_choose}
+use Rattle.cd_protocol.specs.declared.session.Phase.{Phase}
+use Rattle.cd_protocol.specs.declared.session.Phase.TheVariants.{Fresh}
+use Rattle.cd_effects.specs.declared.owners.Holding.{Holding}
+use Rattle.cd_effects.specs.Stands.{holder_of}
+use Rattle.cd_exchange.specs.Sessions.{phase_among}
+use Rattle.cd_exchange.specs.declared.session.Session.{Session}
+use Rattle.cd_session_rules.specs.NodeView.{view_of}
 use Rattle.cd_plain.specs.Choice.{placing_of}
 use Rattle.cd_plain.specs.Chosen.{busy_with, busy_in, placed_in}
 use Rattle.cd_plain.specs.Law.{number_of, IsNodeOf}
@@ -56,12 +56,12 @@ busy_is phase (s ∷ sessions) all =
     (busy_more (own_number s.phase) (filter_map (λ sid. own_number (phase sid)) (map number_of sessions)) (busy_in sessions) (busy_is phase sessions all.1))
 
 pub choice_is : (read : Reading) (state : NodeState) (node : Node) (last now : ℕ) (connected : Bool) → AreMade last state.sessions → IsNodeOf read state node
-    → row_choose node now connected ≡ row_chosen (desk_of read state.config state.registry.entries) now connected (next_due state.registry.entries now (busy_in state.sessions))
+    → row_choose node now connected ≡ row_chosen (view_of read state.config state.registry.entries) now connected (next_due state.registry.entries now (busy_in state.sessions))
 choice_is read state node last now connected rising is =
     let all = phases_from node.sessions.phase 0 last state.sessions rising (λ sid newer. is.phases sid) in
     let same : busy node.sessions ≡ busy_in state.sessions = ap (filter_map (λ sid. own_number (node.sessions.phase sid))) is.sids ∙ busy_is node.sessions.phase state.sessions all in
-    ap (λ (numbers : List ℕ). row_chosen node.desk now connected (next_due node.desk.journal now numbers)) same
-    ∙ ap (λ (desk : Desk). row_chosen desk now connected (next_due desk.journal now (busy_in state.sessions))) is.desk
+    ap (λ (numbers : List ℕ). row_chosen node.view now connected (next_due node.view.journal now numbers)) same
+    ∙ ap (λ (view : NodeView). row_chosen view now connected (next_due view.journal now (busy_in state.sessions))) is.view
 
 -- A session that was taken.
 
@@ -88,10 +88,10 @@ pub taken_is : (read : Reading) (state after : NodeState) (node : Node) (sid : S
 taken_is read state after node sid newest is registry config holdings sessions =
     let s : Session = record { sid = sid; phase = Fresh } in
     record {
-      desk = is.desk ∙ ap (λ r. desk_of read state.config r.entries) (sym registry) ∙ ap (λ k. desk_of read k after.registry.entries) (sym config);
+      view = is.view ∙ ap (λ r. view_of read state.config r.entries) (sym registry) ∙ ap (λ k. view_of read k after.registry.entries) (sym config);
       sids = ap (λ (l : List ℕ). l ++ sid.number ∷ []) is.sids ∙ sym (map_push number_of state.sessions s) ∙ ap (map number_of) (sym sessions);
       phases = λ other. ap (λ (rest : Phase). cond (eqb sid.number other) Fresh rest) (is.phases other) ∙ phase_more state.sessions sid Fresh newest other ∙ ap (λ (l : List Session). phase_among l other) (sym sessions);
-      holders = λ key. is.holders key ∙ ap (λ (l : List Holding). holder_of l key) (sym holdings);
+      owners = λ key. is.owners key ∙ ap (λ (l : List Holding). holder_of l key) (sym holdings);
     }
 
 -- A placing of what is due.
@@ -123,27 +123,27 @@ may_be read entries n now placed formed legal =
     let fits = (and_parts (is_legal read entries) (allowed read entries e) legal).1 in
     and_from (allowed read entries e && is_by now (moment_of e)) (is_formed e) (and_from (allowed read entries e) (is_by now (moment_of e)) fits (le-leb now now (omega arith))) formed
 
-placed_may : (desk : Desk) (now : ℕ) (row : Row) (waits : Option Waits) (e : Entry) (node : Node) → placed_in (call desk now false row waits) ≡ Some e
-    → is_legal desk.config.read (does 0 (call desk now false row waits) node).desk.journal ≡ true → node.desk.journal ≡ desk.journal → may_record desk.config.read now desk.journal e ≡ true
-placed_may desk now row None e node is legal journal =
+placed_may : (view : NodeView) (now : ℕ) (row : Row) (waits : Option Waits) (e : Entry) (node : Node) → placed_in (call view now false row waits) ≡ Some e
+    → is_legal view.config.read (does 0 (call view now false row waits) node).view.journal ≡ true → node.view.journal ≡ view.journal → may_record view.config.read now view.journal e ≡ true
+placed_may view now row None e node is legal journal =
     let own : place_in row.number now queue.Hold reason.UnknownNode row.placing ≡ e = cc in
-    subst (λ (x : Entry). may_record desk.config.read now desk.journal x ≡ true) own
-    (may_be desk.config.read desk.journal row.number now _ (hold_formed row.number now row.placing)
-    (subst (λ (es : List Entry). is_legal desk.config.read (place_in row.number now queue.Hold reason.UnknownNode row.placing ∷ es) ≡ true) journal legal))
-placed_may desk now row (Some waits) e node is legal journal =
+    subst (λ (x : Entry). may_record view.config.read now view.journal x ≡ true) own
+    (may_be view.config.read view.journal row.number now _ (hold_formed row.number now row.placing)
+    (subst (λ (es : List Entry). is_legal view.config.read (place_in row.number now queue.Hold reason.UnknownNode row.placing ∷ es) ≡ true) journal legal))
+placed_may view now row (Some waits) e node is legal journal =
     let own : entry.Placed row.number (retried waits now row.placing) now ≡ e = cc in
-    subst (λ (x : Entry). may_record desk.config.read now desk.journal x ≡ true) own
-    (may_be desk.config.read desk.journal row.number now _ (retried_formed waits now row.placing row.number)
-    (subst (λ (es : List Entry). is_legal desk.config.read (entry.Placed row.number (retried waits now row.placing) now ∷ es) ≡ true) journal legal))
+    subst (λ (x : Entry). may_record view.config.read now view.journal x ≡ true) own
+    (may_be view.config.read view.journal row.number now _ (retried_formed waits now row.placing row.number)
+    (subst (λ (es : List Entry). is_legal view.config.read (entry.Placed row.number (retried waits now row.placing) now ∷ es) ≡ true) journal legal))
 
 pub placing_may : (read : Reading) (state : NodeState) (node : Node) (last now : ℕ) (row : Row) (e : Entry) → AreMade last state.sessions → IsNodeOf read state node
     → StaysLegal 0 now node (row_choose node now false)
-    → next_due state.registry.entries now (busy_in state.sessions) ≡ Some row → placing_of (desk_of read state.config state.registry.entries) now row ≡ Some e
+    → next_due state.registry.entries now (busy_in state.sessions) ≡ Some row → placing_of (view_of read state.config state.registry.entries) now row ≡ Some e
     → may_record read now state.registry.entries e ≡ true
 placing_may read state node last now row e rising is stays due placing =
-    let desk = desk_of read state.config state.registry.entries in
-    let chosen : row_choose node now false ≡ row_chosen desk now false (Some row) = choice_is read state node last now false rising is ∙ ap (row_chosen desk now false) due in
+    let view = view_of read state.config state.registry.entries in
+    let chosen : row_choose node now false ≡ row_chosen view now false (Some row) = choice_is read state node last now false rising is ∙ ap (row_chosen view now false) due in
     let legal = (stays (row_choose node now false) [] (sym (append-nil (row_choose node now false)))).legal in
-    let here : is_legal desk.config.read (does 0 (row_chosen desk now false (Some row)) node).desk.journal ≡ true =
-    subst (λ (deeds : List Deed). is_legal desk.config.read (does 0 deeds node).desk.journal ≡ true) chosen (subst (λ (d : Desk). is_legal d.config.read (does 0 (row_choose node now false) node).desk.journal ≡ true) is.desk legal) in
-    placed_may desk now row (desk.config.partner row.snode) e node placing here (ap (λ (d : Desk). d.journal) is.desk)
+    let here : is_legal view.config.read (does 0 (row_chosen view now false (Some row)) node).view.journal ≡ true =
+    subst (λ (effects : List Effect). is_legal view.config.read (does 0 effects node).view.journal ≡ true) chosen (subst (λ (d : NodeView). is_legal d.config.read (does 0 (row_choose node now false) node).view.journal ≡ true) is.view legal) in
+    placed_may view now row (view.config.partner row.snode) e node placing here (ap (λ (d : NodeView). d.journal) is.view)

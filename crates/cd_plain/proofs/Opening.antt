@@ -2,7 +2,7 @@
 use Rattle.std.proofs.Common.{◌≡◌, ℕ, ◌<◌, ◌≤◌, List, [], ◌∷◌, ◌++◌, sym, ap, subst, ◌∙◌}
 use Rattle.cd_outside.specs.Lines.{Traffic}
 use Rattle.cd_frames.specs.Reading.{Reading}
-use Rattle.cd_node.specs.declared.session.Session.{Session}
+use Rattle.cd_exchange.specs.declared.session.Session.{Session}
 use Rattle.cd_plain.specs.NodeState.{NodeState, AreRising, AreRead, IsNewest, HasNewReader, HasSessions}
 use Rattle.cd_plain.proofs.Places.{read_same, read_more, rising_more, unread_was}
 

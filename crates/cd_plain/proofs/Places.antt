@@ -7,9 +7,9 @@ use Rattle.std.proofs.lemmas.Option.{slice_get-get_or}
 use Rattle.cd_outside.specs.Lines.{Traffic}
 use Rattle.cd_frames.specs.Reading.{Reading}
 use Rattle.cd_frames.specs.Run.{made}
-use Rattle.cd_node.specs.declared.session.Session.{Session}
-use Rattle.cd_moves.specs.declared.session.Phase.{Phase}
-use Rattle.cd_handling.specs.Arriving.{TookOfOne}
+use Rattle.cd_exchange.specs.declared.session.Session.{Session}
+use Rattle.cd_protocol.specs.declared.session.Phase.{Phase}
+use Rattle.cd_exchange.specs.Arriving.{TookOfOne}
 use Rattle.cd_plain.specs.NodeState.{is_gone, AreRising, IsNewest, WasRead, AreRead, IsUnread}
 use Rattle.cd_plain.specs.Turned.{in_phase, is_open_as, place_of}
 

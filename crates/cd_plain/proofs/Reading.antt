@@ -3,16 +3,16 @@ use Rattle.std.proofs.Common.{inl, inr, ℕ, List, [], ◌∷◌, ◌++◌, sym,
 use Rattle.cd_outside.specs.Lines.{LineCounts}
 use Rattle.cd_frames.specs.Reading.{Reading}
 use Rattle.cd_frames.specs.Run.{Run}
-use Rattle.cd_legal.specs.Steps as steps
-use Rattle.cd_moves.specs.Rows.{row_end}
-use Rattle.cd_deeds.specs.Stands.{Spot}
-use Rattle.cd_node.specs.Question.{Setting}
-use Rattle.cd_node.specs.declared.session.Session.{Session}
-use Rattle.cd_handling.specs.Arriving.{TookOfOne}
-use Rattle.cd_handling.specs.Handling.{the_case}
-use Rattle.cd_handling.specs.Turn.{TookTurn, heard_at}
-use Rattle.cd_handling.specs.declared.ending.Ending.{Ending}
-use Rattle.cd_handling.proofs.Taken.{ended_taken, handled_taken}
+use Rattle.cd_rules.specs.Steps as steps
+use Rattle.cd_protocol.specs.Rows.{row_end}
+use Rattle.cd_effects.specs.Stands.{Spot}
+use Rattle.cd_exchange.specs.Question.{Setting}
+use Rattle.cd_exchange.specs.declared.session.Session.{Session}
+use Rattle.cd_exchange.specs.Arriving.{TookOfOne}
+use Rattle.cd_exchange.specs.Handling.{the_case}
+use Rattle.cd_exchange.specs.Turn.{TookTurn, heard_at}
+use Rattle.cd_exchange.specs.declared.ending.Ending.{Ending}
+use Rattle.cd_exchange.proofs.Taken.{ended_taken, handled_taken}
 use Rattle.cd_plain.specs.NodeState.{WasRead}
 
 module _ (files_told lines_told : Type 0) (setting : Setting) (read : steps.Reading) (sid now : ℕ) (others : List Session) (ending : Ending) (counts_before counts : LineCounts) (reader_before reader : Reading) (before after : Spot) where

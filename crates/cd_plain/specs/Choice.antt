@@ -6,15 +6,15 @@ use Rattle.cd_outside.specs.declared.sid.Sid.{Sid}
 use Rattle.cd_types.specs.declared.rows.Row.{Row}
 use Rattle.cd_entries.specs.Entry.{entry_bytes}
 use Rattle.cd_entries.specs.declared.entry.Entry.{Entry}
-use Rattle.cd_legal.specs.Steps.{Reading}
-use Rattle.cd_moves.specs.Node.{Desk}
-use Rattle.cd_moves.specs.Rows.{row_chosen}
-use Rattle.cd_moves.specs.declared.session.Phase.{Phase}
-use Rattle.cd_moves.specs.declared.session.Phase.TheVariants.{Gone, Fresh}
-use Rattle.cd_deeds.specs.Stands.{Spot, WereDone, WereCut}
-use Rattle.cd_deeds.specs.declared.fault.Fault.{Fault}
-use Rattle.cd_deeds.specs.declared.fault.Fault.TheVariants as fault
-use Rattle.cd_parts.specs.Desk.{desk_of}
+use Rattle.cd_rules.specs.Steps.{Reading}
+use Rattle.cd_protocol.specs.Node.{NodeView}
+use Rattle.cd_protocol.specs.Rows.{row_chosen}
+use Rattle.cd_protocol.specs.declared.session.Phase.{Phase}
+use Rattle.cd_protocol.specs.declared.session.Phase.TheVariants.{Gone, Fresh}
+use Rattle.cd_effects.specs.Stands.{Spot, WereDone, WereCut}
+use Rattle.cd_effects.specs.declared.fault.Fault.{Fault}
+use Rattle.cd_effects.specs.declared.fault.Fault.TheVariants as fault
+use Rattle.cd_session_rules.specs.NodeView.{view_of}
 use Rattle.cd_plain.specs.Chosen.{placed_in, IsKnown, IsPlaced}
 use Rattle.cd_plain.specs.NodeState.{NodeState, IsNewest, HasNewReader, KeptSessions}
 use Rattle.cd_plain.specs.Turned.{Told, spot_of}
@@ -80,37 +80,37 @@ IsFaultOfPlacing placing fault.NoMemory = Unit {0}
 IsFaultOfPlacing placing _ = ⊥
 
 -- the placing of a Process whose partner wasn't connected, or can't be called, by the rules
-abbrev pub placing_of : Desk → ℕ → Row → Option Entry
-placing_of desk now row = placed_in (row_chosen desk now false (Some row))
+abbrev pub placing_of : NodeView → ℕ → Row → Option Entry
+placing_of view now row = placed_in (row_chosen view now false (Some row))
 
 -- A Process that is due was chosen: whether files and lines tell, how the node reads texts, the moment, the Process's row, what was
 -- answered, and the node and what its devices tell, before and after.
 module _ (files_told lines_told : Type 0) (read : Reading) (now : ℕ) (row : Row) (answer : Handled) (node after : NodeState) (before now_told : Told) where
   -- it was placed by the rules, where that may be recorded
   abbrev pub WasPlaced : Type 0
-  WasPlaced = IsPlaced read now (placing_of (desk_of read node.config node.registry.entries) now row) node.registry.entries after.registry.entries
+  WasPlaced = IsPlaced read now (placing_of (view_of read node.config node.registry.entries) now row) node.registry.entries after.registry.entries
 
   -- The node can call its partner, and a session with it began, by the rules.
   pub record WasConnected (sid : Sid) : Type 0 where
     pub answered : answer ≡ handled.Went
-    pub known : IsKnown (desk_of read node.config node.registry.entries) row
+    pub known : IsKnown (view_of read node.config node.registry.entries) row
     pub newest : IsNewest sid.number node.sessions
     pub phase : Phase
     pub sessions : after.sessions ≡ node.sessions ++ (record { sid = sid; phase = phase }) ∷ []
     pub readings : HasNewReader node.readings after.readings
-    pub done : WereDone files_told lines_told sid.number (row_chosen (desk_of read node.config node.registry.entries) now true (Some row)) (spot_of node Gone before) (spot_of after phase now_told)
+    pub done : WereDone files_told lines_told sid.number (row_chosen (view_of read node.config node.registry.entries) now true (Some row)) (spot_of node Gone before) (spot_of after phase now_told)
 
   -- So it was, but the session failed, and only a part of what the rules say was given to it. It is lost, and the Process is placed by
   -- the rules, as where its partner isn't connected.
   pub record WasLost (sid : Sid) : Type 0 where
     pub answered : answer ≡ handled.Lost sid
-    pub known : IsKnown (desk_of read node.config node.registry.entries) row
+    pub known : IsKnown (view_of read node.config node.registry.entries) row
     pub newest : IsNewest sid.number node.sessions
     pub sessions : after.sessions ≡ node.sessions ++ (record { sid = sid; phase = Gone }) ∷ []
     pub readings : HasNewReader node.readings after.readings
     pub cause : Rose (before.counts.faults sid.number) (now_told.counts.faults sid.number)
     pub at : Spot
-    pub cut : WereCut files_told lines_told sid.number (row_chosen (desk_of read node.config node.registry.entries) now true (Some row)) fault.Line (spot_of node Gone before) at
+    pub cut : WereCut files_told lines_told sid.number (row_chosen (view_of read node.config node.registry.entries) now true (Some row)) fault.Line (spot_of node Gone before) at
     pub shelf : files_told → now_told.shelf ≡ at.shelf
     pub traffic : lines_told → now_told.traffic ≡ at.traffic
     pub holdings : after.holdings ≡ at.holdings
@@ -124,7 +124,7 @@ module _ (files_told lines_told : Type 0) (read : Reading) (now : ℕ) (row : Ro
   -- The node can't call its partner: the Process is held, and nothing else is done.
   pub record WasHeld : Type 0 where
     pub answered : answer ≡ handled.Went
-    pub unknown : (desk_of read node.config node.registry.entries).config.partner row.snode ≡ None
+    pub unknown : (view_of read node.config node.registry.entries).config.partner row.snode ≡ None
     pub placed : WasPlaced
     pub kept : KeptSessions node after
     pub untouched : now_told ≡ before
@@ -132,7 +132,7 @@ module _ (files_told lines_told : Type 0) (read : Reading) (now : ℕ) (row : Ro
   -- Its partner wasn't connected, as the lines counted: the Process is placed anew, and nothing else is done.
   pub record WasNotConnected : Type 0 where
     pub answered : answer ≡ handled.NotConnected row.number
-    pub known : IsKnown (desk_of read node.config node.registry.entries) row
+    pub known : IsKnown (view_of read node.config node.registry.entries) row
     pub cause : Rose before.counts.connects now_told.counts.connects
     pub placed : WasPlaced
     pub kept : KeptSessions node after

@@ -3,12 +3,12 @@ use Rattle.std.specs.Prelude.{◌≡◌, ◌⊎◌, ℕ, List, [], ◌∷◌, fa
 use Rattle.cd_types.specs.declared.rows.Row.{Row}
 use Rattle.cd_entries.specs.declared.entry.Entry.{Entry}
 use Rattle.cd_entries.specs.declared.entry.Entry.TheVariants as entry
-use Rattle.cd_status.specs.Queue.{Waits}
-use Rattle.cd_legal.specs.Steps.{Reading}
-use Rattle.cd_moves.specs.Closing.{own_number}
-use Rattle.cd_moves.specs.Node.{Desk, Deed, Keep}
-use Rattle.cd_moves.specs.Rows.{may_record}
-use Rattle.cd_node.specs.declared.session.Session.{Session}
+use Rattle.cd_rules.specs.Queue.{Waits}
+use Rattle.cd_rules.specs.Steps.{Reading}
+use Rattle.cd_protocol.specs.Closing.{own_number}
+use Rattle.cd_protocol.specs.Node.{NodeView, Effect, Keep}
+use Rattle.cd_protocol.specs.Rows.{may_record}
+use Rattle.cd_exchange.specs.declared.session.Session.{Session}
 
 abbrev pub busy_with : Option ℕ → List ℕ → List ℕ
 busy_with None numbers = numbers
@@ -19,8 +19,8 @@ abbrev pub busy_in : List Session → List ℕ
 busy_in [] = []
 busy_in (s ∷ sessions) = busy_with (own_number s.phase) (busy_in sessions)
 
--- the placing that deeds record, where they record that alone
-abbrev pub placed_in : List Deed → Option Entry
+-- the placing that effects record, where they record that alone
+abbrev pub placed_in : List Effect → Option Entry
 placed_in (Keep (entry.Placed number placing moment) ∷ []) = Some (entry.Placed number placing moment)
 placed_in _ = None
 
@@ -34,5 +34,5 @@ abbrev pub IsCalled : Option Waits → Type 0
 IsCalled None = ⊥
 IsCalled (Some waits) = Unit {0}
 
-abbrev pub IsKnown : Desk → Row → Type 0
-IsKnown desk chosen = IsCalled (desk.config.partner chosen.snode)
+abbrev pub IsKnown : NodeView → Row → Type 0
+IsKnown view chosen = IsCalled (view.config.partner chosen.snode)

@@ -3,15 +3,15 @@ use Rattle.std.specs.Prelude.{◌≡◌, ℕ, Some, slice_get}
 use Rattle.cd_outside.specs.Moments.{Moments}
 use Rattle.cd_outside.specs.declared.sid.Sid.{Sid}
 use Rattle.cd_frames.specs.Reading as readers
-use Rattle.cd_legal.specs.Steps.{Reading}
-use Rattle.cd_moves.specs.Node.{Node}
-use Rattle.cd_moves.specs.Rows.{row_end}
-use Rattle.cd_deeds.specs.Joint.{NodeImage, IsWithin}
-use Rattle.cd_node.specs.Going.{IsSo}
-use Rattle.cd_node.specs.Sessions.{IsAt}
-use Rattle.cd_node.specs.declared.session.Session.{Session}
-use Rattle.cd_handling.specs.Crash.{TurnLeaves}
-use Rattle.cd_handling.specs.Setting.{setting_of}
+use Rattle.cd_rules.specs.Steps.{Reading}
+use Rattle.cd_protocol.specs.Node.{Node}
+use Rattle.cd_protocol.specs.Rows.{row_end}
+use Rattle.cd_effects.specs.Joint.{NodeImage, IsWithin}
+use Rattle.cd_exchange.specs.Going.{IsSo}
+use Rattle.cd_exchange.specs.Sessions.{IsAt}
+use Rattle.cd_exchange.specs.declared.session.Session.{Session}
+use Rattle.cd_exchange.specs.Crash.{TurnLeaves}
+use Rattle.cd_exchange.specs.Setting.{setting_of}
 use Rattle.cd_plain.specs.NodeState.{NodeState}
 use Rattle.cd_plain.specs.Turned.{Told, IsTurnOf, others_at, place_of, spot_of}
 

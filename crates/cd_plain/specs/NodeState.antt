@@ -7,15 +7,15 @@ use Rattle.cd_frames.specs.Frame.{is_block}
 use Rattle.cd_frames.specs.Message.{Message}
 use Rattle.cd_frames.specs.Reading.{Reading}
 use Rattle.cd_frames.specs.Run.{Run}
-use Rattle.cd_status.specs.Processes.{latest}
-use Rattle.cd_legal.specs.Legal.{is_legal}
-use Rattle.cd_legal.specs.Steps as steps
-use Rattle.cd_moves.specs.declared.session.Phase.{Phase}
-use Rattle.cd_moves.specs.declared.session.Phase.TheVariants.{Gone}
-use Rattle.cd_deeds.specs.Registry.{RegistryState, IsRegistry}
-use Rattle.cd_deeds.specs.declared.holders.Holding.{Holding}
-use Rattle.cd_node.specs.declared.session.Session.{Session}
-use Rattle.cd_parts.specs.declared.config.Config.{Config}
+use Rattle.cd_rules.specs.Processes.{latest}
+use Rattle.cd_rules.specs.Legal.{is_legal}
+use Rattle.cd_rules.specs.Steps as steps
+use Rattle.cd_protocol.specs.declared.session.Phase.{Phase}
+use Rattle.cd_protocol.specs.declared.session.Phase.TheVariants.{Gone}
+use Rattle.cd_effects.specs.Registry.{RegistryState, IsRegistry}
+use Rattle.cd_effects.specs.declared.owners.Holding.{Holding}
+use Rattle.cd_exchange.specs.declared.session.Session.{Session}
+use Rattle.cd_session_rules.specs.declared.config.Config.{Config}
 
 -- what it has recorded; how it is set up; its sessions as they came, and what was read of each; and which session holds which key
 pub record NodeState : Type 0 where

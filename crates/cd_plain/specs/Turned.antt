@@ -6,19 +6,19 @@ use Rattle.cd_outside.specs.Lines.{Traffic, LineCounts}
 use Rattle.cd_outside.specs.Shelf.{Shelf}
 use Rattle.cd_outside.specs.declared.sid.Sid.{Sid}
 use Rattle.cd_frames.specs.Reading.{Reading}
-use Rattle.cd_legal.specs.Steps as steps
-use Rattle.cd_moves.specs.Rows.{row_end}
-use Rattle.cd_moves.specs.declared.session.Phase.{Phase}
-use Rattle.cd_moves.specs.declared.session.Phase.TheVariants.{Gone}
-use Rattle.cd_deeds.specs.Stands.{Spot, spot}
-use Rattle.cd_deeds.specs.declared.fault.Fault.{Fault}
-use Rattle.cd_node.specs.declared.session.Session.{Session}
-use Rattle.cd_handling.specs.Handling.{DidEnd, EndStopped}
+use Rattle.cd_rules.specs.Steps as steps
+use Rattle.cd_protocol.specs.Rows.{row_end}
+use Rattle.cd_protocol.specs.declared.session.Phase.{Phase}
+use Rattle.cd_protocol.specs.declared.session.Phase.TheVariants.{Gone}
+use Rattle.cd_effects.specs.Stands.{Spot, spot}
+use Rattle.cd_effects.specs.declared.fault.Fault.{Fault}
+use Rattle.cd_exchange.specs.declared.session.Session.{Session}
+use Rattle.cd_exchange.specs.Handling.{DidEnd, EndStopped}
 use Rattle.cd_plain.specs.NodeState.{NodeState, is_gone}
-use Rattle.cd_handling.specs.Setting.{setting_of}
-use Rattle.cd_handling.specs.Turn.{MayBeLost, TookTurn, TurnFailed}
-use Rattle.cd_handling.specs.declared.ending.Ending.{Ending}
-use Rattle.cd_handling.specs.declared.ending.Ending.TheVariants as an_ending
+use Rattle.cd_exchange.specs.Setting.{setting_of}
+use Rattle.cd_exchange.specs.Turn.{MayBeLost, TookTurn, TurnFailed}
+use Rattle.cd_exchange.specs.declared.ending.Ending.{Ending}
+use Rattle.cd_exchange.specs.declared.ending.Ending.TheVariants as an_ending
 use Rattle.cd_plain.specs.declared.handled.Handled.{Handled}
 use Rattle.cd_plain.specs.declared.handled.Handled.TheVariants as handled
 

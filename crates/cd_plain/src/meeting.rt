@@ -4,9 +4,9 @@ ghost use Rattle.cd_outside.specs.Counts.{Rose};
 ghost use Rattle.cd_outside.specs.Lines.{IsFresh, NeverFell};
 ghost use Rattle.cd_types.specs.declared.rows.Row.{Row};
 ghost use Rattle.cd_journal.specs.Journal.{length_of};
-ghost use Rattle.cd_status.specs.Queue.{next_due};
-ghost use Rattle.cd_legal.specs.Legal.{is_legal};
-ghost use Rattle.cd_parts.specs.Desk.{desk_of};
+ghost use Rattle.cd_rules.specs.Queue.{next_due};
+ghost use Rattle.cd_rules.specs.Legal.{is_legal};
+ghost use Rattle.cd_session_rules.specs.NodeView.{view_of};
 ghost use Rattle.cd_plain.specs.Choice.{placing_of, Accepted, GaveOfOne, HasOpened, MadeSession, IsFaultOfAccepting, IsFaultOfPlacing, WasChosen, WasConnected, WasLost};
 ghost use Rattle.cd_plain.specs.Chosen.{busy_in, IsKnown, IsPlaced};
 ghost use Rattle.cd_plain.specs.NodeState.{IsNewest, KeptSessions, HasHome, HasSessions, IsReady};
@@ -16,10 +16,10 @@ use crate::choosing::{busy, greet, place};
 use crate::handled::Handled;
 use crate::node::Node;
 use cd_book::Texts;
-use cd_deeds::Fault;
-use cd_moves::Phase;
+use cd_effects::Fault;
 use cd_outside::{Beat, Disk, Files, Lines, Sid};
-use cd_parts::waits_of;
+use cd_protocol::Phase;
+use cd_session_rules::waits_of;
 use cd_types::{Moment, Row};
 
 /// The port at which a partner is called, by its name.
@@ -31,14 +31,14 @@ impl<T: Texts> Node<T> {
     /// `Line` comes only where the count of listening and accepting rose. After each `Err` the node is as it was, and has its sessions; after
     /// `NoMemory` a session may be left that the node doesn't know.
     pub fn accept<L: Lines>(&mut self, lines: &mut L) -> Result<Handled, Fault>
-        requires sessions { HasSessions L.told self.old (L.traffic lines.old) (L.last lines.old) }
+        requires sessions { HasSessions L.observable self.old (L.traffic lines.old) (L.last lines.old) }
         ensures accepted { IfOk result (λ handled. Accepted handled (L.last lines.old) (L.last lines.new) (L.counts lines.old) (L.counts lines.new) self.old self.new) }
-        ensures sessions { HasSessions L.told self.new (L.traffic lines.new) (L.last lines.new) }
-        ensures fresh { L.told → L.last lines.old < L.last lines.new → IsFresh (L.last lines.new) (L.traffic lines.new) }
+        ensures sessions { HasSessions L.observable self.new (L.traffic lines.new) (L.last lines.new) }
+        ensures fresh { L.observable → L.last lines.old < L.last lines.new → IsFresh (L.last lines.new) (L.traffic lines.new) }
         ensures registry { self.new.registry ≡ self.old.registry }
         ensures config { self.new.config ≡ self.old.config }
         ensures holdings { self.new.holdings ≡ self.old.holdings }
-        ensures traffic { L.told → L.traffic lines.new ≡ L.traffic lines.old }
+        ensures traffic { L.observable → L.traffic lines.new ≡ L.traffic lines.old }
         ensures err { OnErr result (self.new ≡ self.old) }
         ensures fault { IfErr result IsFaultOfAccepting }
         ensures line { result ≡ Err Fault.Line → Rose (L.counts lines.old).accepts (L.counts lines.new).accepts }
@@ -62,14 +62,14 @@ impl<T: Texts> Node<T> {
         disk: &mut D,
         beat: &mut Beat,
     ) -> Result<(), Fault>
-        requires home { HasHome D.told T.read self.old (D.state disk.old) beat.old now }
-        ensures placed { OnOk result (IsPlaced T.read now (placing_of (desk_of T.read self.old.config self.old.registry.entries) now chosen.now) self.old.registry.entries self.new.registry.entries) }
+        requires home { HasHome D.observable T.read self.old (D.state disk.old) beat.old now }
+        ensures placed { OnOk result (IsPlaced T.read now (placing_of (view_of T.read self.old.config self.old.registry.entries) now chosen.now) self.old.registry.entries self.new.registry.entries) }
         ensures err { OnErr result (self.new.registry.entries ≡ self.old.registry.entries) }
         ensures kept { KeptSessions self.old self.new }
         ensures config { self.new.config ≡ self.old.config }
-        ensures home { result ≢ Err Fault.Disk → HasHome D.told T.read self.new (D.state disk.new) beat.new now }
+        ensures home { result ≢ Err Fault.Disk → HasHome D.observable T.read self.new (D.state disk.new) beat.new now }
         ensures legal { is_legal T.read self.new.registry.entries ≡ true }
-        ensures fault { IfErr result (λ fault. IsFaultOfPlacing (placing_of (desk_of T.read self.old.config self.old.registry.entries) now chosen.now) fault) }
+        ensures fault { IfErr result (λ fault. IsFaultOfPlacing (placing_of (view_of T.read self.old.config self.old.registry.entries) now chosen.now) fault) }
         ensures full { (len : ℕ) → result ≡ Err (Fault.JournalFull len) → length_of self.new.registry.journal ≡ len }
         ensures disk { result ≡ Err Fault.Disk → Rose (D.faults disk.old) (D.faults disk.new) }
         ensures beat { beat.old ≤ beat.new }
@@ -113,33 +113,33 @@ impl<T: Texts> Node<T> {
         lines: &mut L,
         beat: &mut Beat,
     ) -> Result<Handled, Fault>
-        requires ready { IsReady D.told F.told L.told T.read self.old (D.state disk.old) (F.state files.old) (L.traffic lines.old) beat.old (L.last lines.old) now }
+        requires ready { IsReady D.observable F.observable L.observable T.read self.old (D.state disk.old) (F.state files.old) (L.traffic lines.old) beat.old (L.last lines.old) now }
 
         // What is done.
         ensures idle { result ≡ Ok Handled.Idle → (next_due self.old.registry.entries now (busy_in self.old.sessions) ≡ None) × (self.new ≡ self.old)
             × (disk.new ≡ disk.old) × (files.new ≡ files.old) × (lines.new ≡ lines.old) × (beat.new ≡ beat.old) }
         ensures none { IfOk result (λ handled. next_due self.old.registry.entries now (busy_in self.old.sessions) ≡ None → handled ≡ Handled.Idle) }
         ensures chosen { IfOk result (λ handled. (row : Row) → next_due self.old.registry.entries now (busy_in self.old.sessions) ≡ Some row
-            → WasChosen F.told L.told T.read now row handled self.old self.new
+            → WasChosen F.observable L.observable T.read now row handled self.old self.new
             (told (F.state files.old).shelf (F.faults files.old) (L.traffic lines.old) (L.counts lines.old)) (told (F.state files.new).shelf (F.faults files.new) (L.traffic lines.new) (L.counts lines.new))) }
         ensures made { OnOk result (MadeSession (L.last lines.old) (L.last lines.new) self.old self.new) }
-        ensures fresh { L.told → L.last lines.old < L.last lines.new → IsFresh (L.last lines.new) (L.traffic lines.old) }
+        ensures fresh { L.observable → L.last lines.old < L.last lines.new → IsFresh (L.last lines.new) (L.traffic lines.old) }
 
         // What is as it was, also where it fails: the files, the bytes taken of sessions, and those given to the ones before it.
-        ensures shelf { F.told → (F.state files.new).shelf ≡ (F.state files.old).shelf }
-        ensures taken { L.told → (L.traffic lines.new).taken ≡ (L.traffic lines.old).taken }
-        ensures given { L.told → (other : ℕ) → other ≤ L.last lines.old → (L.traffic lines.new).given other ≡ (L.traffic lines.old).given other }
+        ensures shelf { F.observable → (F.state files.new).shelf ≡ (F.state files.old).shelf }
+        ensures taken { L.observable → (L.traffic lines.new).taken ≡ (L.traffic lines.old).taken }
+        ensures given { L.observable → (other : ℕ) → other ≤ L.last lines.old → (L.traffic lines.new).given other ≡ (L.traffic lines.old).given other }
 
         // What stands then.
-        ensures ready { OnOk result (IsReady D.told F.told L.told T.read self.new (D.state disk.new) (F.state files.new) (L.traffic lines.new) beat.new (L.last lines.new) now) }
-        ensures home { result ≢ Err Fault.Disk → HasHome D.told T.read self.new (D.state disk.new) beat.new now }
+        ensures ready { OnOk result (IsReady D.observable F.observable L.observable T.read self.new (D.state disk.new) (F.state files.new) (L.traffic lines.new) beat.new (L.last lines.new) now) }
+        ensures home { result ≢ Err Fault.Disk → HasHome D.observable T.read self.new (D.state disk.new) beat.new now }
         ensures legal { is_legal T.read self.new.registry.entries ≡ true }
         ensures err { OnErr result (self.new.registry.entries ≡ self.old.registry.entries) }
         ensures config { self.new.config ≡ self.old.config }
 
         // Why it fails.
         ensures fault { IfErr result (λ fault. (row : Row) → next_due self.old.registry.entries now (busy_in self.old.sessions) ≡ Some row
-            → IsFaultOfPlacing (placing_of (desk_of T.read self.old.config self.old.registry.entries) now row) fault) }
+            → IsFaultOfPlacing (placing_of (view_of T.read self.old.config self.old.registry.entries) now row) fault) }
         ensures idle_fault { IfErr result (λ fault. next_due self.old.registry.entries now (busy_in self.old.sessions) ≡ None
             → (fault ≡ Fault.NoMemory) × (self.new ≡ self.old) × (disk.new ≡ disk.old) × (files.new ≡ files.old) × (lines.new ≡ lines.old) × (beat.new ≡ beat.old)) }
         ensures full { (len : ℕ) → result ≡ Err (Fault.JournalFull len) → length_of self.new.registry.journal ≡ len }
@@ -186,27 +186,27 @@ impl<T: Texts> Node<T> {
         lines: &mut L,
         beat: &mut Beat,
     ) -> Result<Handled, Fault>
-        requires ready { IsReady D.told F.told L.told T.read self.old (D.state disk.old) (F.state files.old) (L.traffic lines.old) beat.old (L.last lines.old) now }
+        requires ready { IsReady D.observable F.observable L.observable T.read self.old (D.state disk.old) (F.state files.old) (L.traffic lines.old) beat.old (L.last lines.old) now }
         requires from { 1 ≤ sid.number }
         requires to { sid.number ≤ L.last lines.old }
         requires newest { IsNewest sid.number self.old.sessions }
-        requires fresh { L.told → IsFresh sid.number (L.traffic lines.old) }
-        requires known { IsKnown (desk_of T.read self.old.config self.old.registry.entries) chosen.now }
-        ensures begun { IfOk result (λ handled. WasConnected F.told L.told T.read now chosen.now handled self.old self.new
+        requires fresh { L.observable → IsFresh sid.number (L.traffic lines.old) }
+        requires known { IsKnown (view_of T.read self.old.config self.old.registry.entries) chosen.now }
+        ensures begun { IfOk result (λ handled. WasConnected F.observable L.observable T.read now chosen.now handled self.old self.new
             (told (F.state files.old).shelf (F.faults files.old) (L.traffic lines.old) (L.counts lines.old)) (told (F.state files.new).shelf (F.faults files.new) (L.traffic lines.new) (L.counts lines.new)) sid
-            ⊎ WasLost F.told L.told T.read now chosen.now handled self.old self.new
+            ⊎ WasLost F.observable L.observable T.read now chosen.now handled self.old self.new
             (told (F.state files.old).shelf (F.faults files.old) (L.traffic lines.old) (L.counts lines.old)) (told (F.state files.new).shelf (F.faults files.new) (L.traffic lines.new) (L.counts lines.new)) sid) }
         ensures opened { IfOk result (λ _. HasOpened sid self.old self.new) }
-        ensures shelf { F.told → (F.state files.new).shelf ≡ (F.state files.old).shelf }
-        ensures taken { L.told → (L.traffic lines.new).taken ≡ (L.traffic lines.old).taken }
-        ensures given { L.told → GaveOfOne sid.number (L.traffic lines.old) (L.traffic lines.new) }
+        ensures shelf { F.observable → (F.state files.new).shelf ≡ (F.state files.old).shelf }
+        ensures taken { L.observable → (L.traffic lines.new).taken ≡ (L.traffic lines.old).taken }
+        ensures given { L.observable → GaveOfOne sid.number (L.traffic lines.old) (L.traffic lines.new) }
         ensures last { L.last lines.new ≡ L.last lines.old }
-        ensures ready { OnOk result (IsReady D.told F.told L.told T.read self.new (D.state disk.new) (F.state files.new) (L.traffic lines.new) beat.new (L.last lines.new) now) }
-        ensures home { result ≢ Err Fault.Disk → HasHome D.told T.read self.new (D.state disk.new) beat.new now }
+        ensures ready { OnOk result (IsReady D.observable F.observable L.observable T.read self.new (D.state disk.new) (F.state files.new) (L.traffic lines.new) beat.new (L.last lines.new) now) }
+        ensures home { result ≢ Err Fault.Disk → HasHome D.observable T.read self.new (D.state disk.new) beat.new now }
         ensures legal { is_legal T.read self.new.registry.entries ≡ true }
         ensures err { OnErr result (self.new.registry.entries ≡ self.old.registry.entries) }
         ensures config { self.new.config ≡ self.old.config }
-        ensures fault { IfErr result (λ fault. IsFaultOfPlacing (placing_of (desk_of T.read self.old.config self.old.registry.entries) now chosen.now) fault) }
+        ensures fault { IfErr result (λ fault. IsFaultOfPlacing (placing_of (view_of T.read self.old.config self.old.registry.entries) now chosen.now) fault) }
         ensures full { (len : ℕ) → result ≡ Err (Fault.JournalFull len) → length_of self.new.registry.journal ≡ len }
         ensures disk { result ≡ Err Fault.Disk → Rose (D.faults disk.old) (D.faults disk.new) }
         ensures beat { beat.old ≤ beat.new }
@@ -221,7 +221,7 @@ impl<T: Texts> Node<T> {
             &self.config,
             &mut self.registry,
             &mut phase,
-            &mut self.holders,
+            &mut self.owners,
             sid,
             now,
             chosen,

@@ -5,24 +5,23 @@ ghost use Rattle.cd_outside.specs.Disk.{LeftAt};
 ghost use Rattle.cd_outside.specs.Moments.{Moments};
 ghost use Rattle.cd_entries.specs.Entry.{entry_bytes};
 ghost use Rattle.cd_journal.specs.Journal.{length_of};
-ghost use Rattle.cd_legal.specs.Legal.{is_legal};
-ghost use Rattle.cd_moves.specs.Node.{Keep};
-ghost use Rattle.cd_moves.specs.Rows.{may_record};
+ghost use Rattle.cd_rules.specs.Legal.{is_legal};
+ghost use Rattle.cd_protocol.specs.Node.{Keep};
+ghost use Rattle.cd_protocol.specs.Rows.{may_record};
 ghost use Rattle.cd_book.specs.Book.{IsRead};
-ghost use Rattle.cd_deeds.specs.Registry.{IsWithOrWithout};
-ghost use Rattle.cd_deeds.specs.Stands.{HasFormedOrigin, IsFaultOf};
+ghost use Rattle.cd_effects.specs.Registry.{IsWithOrWithout};
+ghost use Rattle.cd_effects.specs.Stands.{HasFormedOrigin, IsFaultOf};
 ghost use Rattle.cd_plain.specs.NodeState.{HasNewReader, KeptSessions, HasHome};
 
 use cd_ast::Process;
 use cd_book::Texts;
-use cd_deeds::{Fault, Holders, Registry};
+use cd_effects::{Fault, KeyOwners, Registry};
 use cd_entries::Entry;
+use cd_exchange::{Session, try_record};
 use cd_frames::Reader;
-use cd_handling::try_record;
-use cd_moves::Phase;
-use cd_node::Session;
 use cd_outside::{Beat, Disk, Sid};
-use cd_parts::Config;
+use cd_protocol::Phase;
+use cd_session_rules::Config;
 use cd_types::Moment;
 use std::alloc::Global;
 use std::marker::Model;
@@ -37,7 +36,7 @@ pub struct Node<T: Texts> {
     /// As they came. A session that is gone stays in the list.
     pub(crate) sessions: Vec<Session>,
     pub(crate) readers: Vec<Reader>,
-    pub(crate) holders: Holders,
+    pub(crate) owners: KeyOwners,
     pub(crate) buffer: Vec<u8>,
 }
 
@@ -47,7 +46,7 @@ impl<T: Texts> Model for Node<T> {
 
     ghost Value = { NodeState };
 
-    ghost view = { λ node. record { registry = node.registry; config = node.config; sessions = node.sessions.items; readings = node.readers.items; holdings = node.holders } };
+    ghost view = { λ node. record { registry = node.registry; config = node.config; sessions = node.sessions.items; readings = node.readers.items; holdings = node.owners } };
 
     ghost invariant = { λ node. length node.readers.items ≡ length node.sessions.items };
 }
@@ -63,7 +62,7 @@ impl<T: Texts> Node<T> {
             registry,
             sessions: Vec::new(alloc),
             readers: Vec::new(alloc),
-            holders: Holders::new(alloc),
+            owners: KeyOwners::new(alloc),
             buffer: Vec::new(alloc),
         }
     }
@@ -121,13 +120,13 @@ impl<T: Texts> Node<T> {
     ) -> Result<bool, Fault>
         requires formed { HasFormedOrigin entry }
         requires read { IsRead T.read entry (option_map (λ p. p.now) process) }
-        requires home { HasHome D.told T.read self.old (D.state disk.old) beat.old now }
+        requires home { HasHome D.observable T.read self.old (D.state disk.old) beat.old now }
         ensures kept { result ≡ Ok true → (may_record T.read now self.old.registry.entries entry ≡ true) × (self.new.registry.entries ≡ entry ∷ self.old.registry.entries) }
         ensures refused { result ≡ Ok false → (may_record T.read now self.old.registry.entries entry ≡ false) × (self.new.registry ≡ self.old.registry) × (disk.new ≡ disk.old) × (beat.new ≡ beat.old) }
         ensures fits { result ≡ Ok true → length_of self.old.registry.journal + 5 + length (entry_bytes entry) ≤ 2 ^ 30 }
         ensures err { OnErr result (self.new.registry.entries ≡ self.old.registry.entries) }
-        ensures moments { D.told → result ≢ Ok false → Moments (LeftAt (D.state disk.old)) (LeftAt (D.state disk.new)) beat.old (IsWithOrWithout entry self.old.registry.entries) }
-        ensures home { result ≢ Err Fault.Disk → HasHome D.told T.read self.new (D.state disk.new) beat.new now }
+        ensures moments { D.observable → result ≢ Ok false → Moments (LeftAt (D.state disk.old)) (LeftAt (D.state disk.new)) beat.old (IsWithOrWithout entry self.old.registry.entries) }
+        ensures home { result ≢ Err Fault.Disk → HasHome D.observable T.read self.new (D.state disk.new) beat.new now }
         ensures legal { is_legal T.read self.new.registry.entries ≡ true }
         ensures sessions { KeptSessions self.old self.new }
         ensures config { self.new.config ≡ self.old.config }

@@ -3,11 +3,11 @@ ghost use Rattle.std.specs.Prelude.{◌≡◌, ◌≢◌, ◌≤◌, ◌<◌, �
 ghost use Rattle.cd_outside.specs.Counts.{Rose};
 ghost use Rattle.cd_outside.specs.Lines.{NeverFell};
 ghost use Rattle.cd_journal.specs.Journal.{length_of};
-ghost use Rattle.cd_legal.specs.Legal.{is_legal};
-ghost use Rattle.cd_legal.specs.Promises.{HavePriorities};
-ghost use Rattle.cd_deeds.specs.Joint.{JointAt};
-ghost use Rattle.cd_deeds.specs.Stands.{IsFaultOfRecording};
-ghost use Rattle.cd_node.specs.declared.session.Session.{Session};
+ghost use Rattle.cd_rules.specs.Legal.{is_legal};
+ghost use Rattle.cd_rules.specs.Promises.{HavePriorities};
+ghost use Rattle.cd_effects.specs.Joint.{JointAt};
+ghost use Rattle.cd_effects.specs.Stands.{IsFaultOfRecording};
+ghost use Rattle.cd_exchange.specs.declared.session.Session.{Session};
 ghost use Rattle.cd_plain.specs.Crash.{NodeLeaves, LeaveLeaves};
 ghost use Rattle.cd_plain.specs.NodeState.{is_gone, HasHome, IsReady};
 ghost use Rattle.cd_plain.specs.Turned.{handled_of, in_phase, is_open_as, place_of, told, HadTurn, NoTurn, FailedTurn, WasLeft, FailedLeaving};
@@ -15,11 +15,10 @@ ghost use Rattle.cd_plain.specs.Turned.{handled_of, in_phase, is_open_as, place_
 use crate::handled::Handled;
 use crate::node::Node;
 use cd_book::Texts;
-use cd_deeds::Fault;
-use cd_handling::{Ending, PlainRules, take_turn};
-use cd_moves::Phase;
-use cd_node::{Session, on_end};
+use cd_effects::Fault;
+use cd_exchange::{Ending, PlainRules, Session, on_end, take_turn};
 use cd_outside::{Beat, Disk, Files, Lines, Sid};
+use cd_protocol::Phase;
 use cd_types::Moment;
 use std::mem;
 
@@ -49,7 +48,7 @@ fn place_of(sessions: &[Session], sid: Sid) -> Option<usize>
 fn close_gone<L: Lines>(lines: &mut L, sid: Sid, phase: &Phase)
     requires from { 1 ≤ sid.number }
     requires to { sid.number ≤ L.last lines.old }
-    ensures same { L.told → L.traffic lines.new ≡ L.traffic lines.old }
+    ensures same { L.observable → L.traffic lines.new ≡ L.traffic lines.old }
     ensures last { L.last lines.new ≡ L.last lines.old }
     ensures later { NeverFell (L.counts lines.old) (L.counts lines.new) }
     ensures nones { (L.counts lines.new).nones ≡ (L.counts lines.old).nones }
@@ -95,26 +94,26 @@ impl<T: Texts> Node<T> {
         beat: &mut Beat,
     ) -> Result<Handled, Fault>
         requires priorities { HavePriorities T.read }
-        requires ready { IsReady D.told F.told L.told T.read self.old (D.state disk.old) (F.state files.old) (L.traffic lines.old) beat.old (L.last lines.old) now }
+        requires ready { IsReady D.observable F.observable L.observable T.read self.old (D.state disk.old) (F.state files.old) (L.traffic lines.old) beat.old (L.last lines.old) now }
 
         // What is done.
-        ensures turned { IfOk result (λ handled. HadTurn F.told L.told T.read now sid handled self.old self.new
+        ensures turned { IfOk result (λ handled. HadTurn F.observable L.observable T.read now sid handled self.old self.new
             (told (F.state files.old).shelf (F.faults files.old) (L.traffic lines.old) (L.counts lines.old)) (told (F.state files.new).shelf (F.faults files.new) (L.traffic lines.new) (L.counts lines.new))
             ⊎ NoTurn sid handled self.old self.new
             (told (F.state files.old).shelf (F.faults files.old) (L.traffic lines.old) (L.counts lines.old)) (told (F.state files.new).shelf (F.faults files.new) (L.traffic lines.new) (L.counts lines.new))) }
-        ensures failed { IfErr result (λ fault. FailedTurn F.told L.told T.read now sid fault self.old self.new
+        ensures failed { IfErr result (λ fault. FailedTurn F.observable L.observable T.read now sid fault self.old self.new
             (told (F.state files.old).shelf (F.faults files.old) (L.traffic lines.old) (L.counts lines.old)) (told (F.state files.new).shelf (F.faults files.new) (L.traffic lines.new) (L.counts lines.new))) }
         ensures none { place_of sid.number self.old.sessions ≡ None
             → (result ≡ Ok (Handled.Lost sid)) × (self.new ≡ self.old) × (disk.new ≡ disk.old) × (files.new ≡ files.old) × (lines.new ≡ lines.old) × (beat.new ≡ beat.old) }
 
         // What a crash leaves at each moment.
-        ensures crash { D.told → F.told → (place_of sid.number self.old.sessions ≡ None)
-            ⊎ NodeLeaves F.told L.told T.read now sid self.old (told (F.state files.old).shelf (F.faults files.old) (L.traffic lines.old) (L.counts lines.old))
+        ensures crash { D.observable → F.observable → (place_of sid.number self.old.sessions ≡ None)
+            ⊎ NodeLeaves F.observable L.observable T.read now sid self.old (told (F.state files.old).shelf (F.faults files.old) (L.traffic lines.old) (L.counts lines.old))
             (JointAt (D.state disk.old) (F.state files.old)) (JointAt (D.state disk.new) (F.state files.new)) beat.old }
 
         // What stands then.
-        ensures ready { OnOk result (IsReady D.told F.told L.told T.read self.new (D.state disk.new) (F.state files.new) (L.traffic lines.new) beat.new (L.last lines.new) now) }
-        ensures home { result ≢ Err Fault.Disk → HasHome D.told T.read self.new (D.state disk.new) beat.new now }
+        ensures ready { OnOk result (IsReady D.observable F.observable L.observable T.read self.new (D.state disk.new) (F.state files.new) (L.traffic lines.new) beat.new (L.last lines.new) now) }
+        ensures home { result ≢ Err Fault.Disk → HasHome D.observable T.read self.new (D.state disk.new) beat.new now }
         ensures legal { is_legal T.read self.new.registry.entries ≡ true }
         ensures config { self.new.config ≡ self.old.config }
         ensures full { (len : ℕ) → result ≡ Err (Fault.JournalFull len) → length_of self.new.registry.journal ≡ len }
@@ -146,7 +145,7 @@ impl<T: Texts> Node<T> {
             &self.sessions,
             &mut phase,
             &mut self.readers[at],
-            &mut self.holders,
+            &mut self.owners,
             sid,
             now,
             disk,
@@ -183,26 +182,26 @@ impl<T: Texts> Node<T> {
         beat: &mut Beat,
     ) -> Result<Handled, Fault>
         requires priorities { HavePriorities T.read }
-        requires ready { IsReady D.told F.told L.told T.read self.old (D.state disk.old) (F.state files.old) (L.traffic lines.old) beat.old (L.last lines.old) now }
+        requires ready { IsReady D.observable F.observable L.observable T.read self.old (D.state disk.old) (F.state files.old) (L.traffic lines.old) beat.old (L.last lines.old) now }
 
         // What is done.
-        ensures left { IfOk result (λ handled. WasLeft F.told L.told T.read now sid handled self.old self.new
+        ensures left { IfOk result (λ handled. WasLeft F.observable L.observable T.read now sid handled self.old self.new
             (told (F.state files.old).shelf (F.faults files.old) (L.traffic lines.old) (L.counts lines.old)) (told (F.state files.new).shelf (F.faults files.new) (L.traffic lines.new) (L.counts lines.new))
             ⊎ NoTurn sid handled self.old self.new
             (told (F.state files.old).shelf (F.faults files.old) (L.traffic lines.old) (L.counts lines.old)) (told (F.state files.new).shelf (F.faults files.new) (L.traffic lines.new) (L.counts lines.new))) }
-        ensures failed { IfErr result (λ fault. FailedLeaving F.told L.told T.read now sid fault self.old self.new
+        ensures failed { IfErr result (λ fault. FailedLeaving F.observable L.observable T.read now sid fault self.old self.new
             (told (F.state files.old).shelf (F.faults files.old) (L.traffic lines.old) (L.counts lines.old)) (told (F.state files.new).shelf (F.faults files.new) (L.traffic lines.new) (L.counts lines.new))) }
         ensures none { place_of sid.number self.old.sessions ≡ None
             → (result ≡ Ok (Handled.Lost sid)) × (self.new ≡ self.old) × (disk.new ≡ disk.old) × (files.new ≡ files.old) × (lines.new ≡ lines.old) × (beat.new ≡ beat.old) }
 
         // What a crash leaves at each moment.
-        ensures crash { D.told → F.told → (place_of sid.number self.old.sessions ≡ None)
-            ⊎ LeaveLeaves F.told T.read now sid self.old (told (F.state files.old).shelf (F.faults files.old) (L.traffic lines.old) (L.counts lines.old))
+        ensures crash { D.observable → F.observable → (place_of sid.number self.old.sessions ≡ None)
+            ⊎ LeaveLeaves F.observable T.read now sid self.old (told (F.state files.old).shelf (F.faults files.old) (L.traffic lines.old) (L.counts lines.old))
             (JointAt (D.state disk.old) (F.state files.old)) (JointAt (D.state disk.new) (F.state files.new)) beat.old }
 
         // What stands then.
-        ensures ready { OnOk result (IsReady D.told F.told L.told T.read self.new (D.state disk.new) (F.state files.new) (L.traffic lines.new) beat.new (L.last lines.new) now) }
-        ensures home { result ≢ Err Fault.Disk → HasHome D.told T.read self.new (D.state disk.new) beat.new now }
+        ensures ready { OnOk result (IsReady D.observable F.observable L.observable T.read self.new (D.state disk.new) (F.state files.new) (L.traffic lines.new) beat.new (L.last lines.new) now) }
+        ensures home { result ≢ Err Fault.Disk → HasHome D.observable T.read self.new (D.state disk.new) beat.new now }
         ensures legal { is_legal T.read self.new.registry.entries ≡ true }
         ensures config { self.new.config ≡ self.old.config }
         ensures full { (len : ℕ) → result ≡ Err (Fault.JournalFull len) → length_of self.new.registry.journal ≡ len }
@@ -232,7 +231,7 @@ impl<T: Texts> Node<T> {
             &rules,
             &mut self.registry,
             &mut phase,
-            &mut self.holders,
+            &mut self.owners,
             sid,
             now,
             disk,

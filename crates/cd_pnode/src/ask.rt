@@ -2,17 +2,19 @@
 ghost use Rattle.std.specs.Prelude.{◌≡◌, true, Some, IfOk};
 ghost use Rattle.cd_ast.specs.declared.process.What.TheVariants as what;
 ghost use Rattle.cd_frames.specs.Message.{message_of};
-ghost use Rattle.cd_legal.specs.Legal.{is_legal};
-ghost use Rattle.cd_legal.specs.Steps.{what_at};
-ghost use Rattle.cd_moves.specs.Rows.{announced_by, receive_announced, row_ask};
-ghost use Rattle.cd_moves.specs.Seen.{seen_part};
-ghost use Rattle.cd_parts.specs.Desk.{desk_of};
+ghost use Rattle.cd_rules.specs.Legal.{is_legal};
+ghost use Rattle.cd_rules.specs.Steps.{what_at};
+ghost use Rattle.cd_protocol.specs.Rows.{announced_by, receive_announced, row_ask};
+ghost use Rattle.cd_protocol.specs.Seen.{seen_reaction};
+ghost use Rattle.cd_session_rules.specs.NodeView.{view_of};
 
 use cd_ast::{CopyStep, What};
 use cd_book::Texts;
 use cd_frames::Frame;
-use cd_moves::{Announced, Part, Phase, Talk};
-use cd_parts::{Desk, close, copy_name, given_up, gives_up, interval_of, receive, same_key};
+use cd_protocol::{Announced, Phase, Reaction, SessionTerms};
+use cd_session_rules::{
+    NodeView, close, copy_name, given_up, gives_up, interval_of, receive, same_key,
+};
 use cd_types::{Key, Moment, NoMemory, Side};
 use std::alloc::Global;
 
@@ -32,30 +34,39 @@ fn announced_by(alloc: Global, step: &CopyStep, length: u64) -> Result<Announced
 /// The length of what is to be received is known.
 fn receive_announced<'a, T: Texts>(
     alloc: Global,
-    desk: &Desk<T>,
+    view: &NodeView<T>,
     now: Moment,
     phase: &Phase,
-    talk: &Talk,
+    terms: &SessionTerms,
     key: &Key,
     length: u64,
-) -> Result<Part<'a>, NoMemory>
-    requires { is_legal T.read desk.now.book.now.entries ≡ true }
-    ensures { IfOk result (λ part. seen_part part ≡ receive_announced (desk_of T.read desk.now.config.now desk.now.book.now.entries) now phase.now talk.now key.now (announced_by (what_at T.read desk.now.book.now.entries key.now.number key.now.place) length)) }
+) -> Result<Reaction<'a>, NoMemory>
+    requires { is_legal T.read view.now.book.now.entries ≡ true }
+    ensures { IfOk result (λ reaction. seen_reaction reaction ≡ receive_announced (view_of T.read view.now.config.now view.now.book.now.entries) now phase.now terms.now key.now (announced_by (what_at T.read view.now.book.now.entries key.now.number key.now.place) length)) }
 {
-    match desk.book.what_at(key.number, key.place as usize) {
+    match view.book.what_at(key.number, key.place as usize) {
         None => {
-            let part = close(alloc, desk, now, phase)?;
-            Ok(part)
+            let reaction = close(alloc, view, now, phase)?;
+            Ok(reaction)
         }
         Some(what) => match what {
             What::Copy(step) => {
                 let announced = announced_by(alloc, step, length)?;
-                let part = receive(alloc, desk, now, phase, Side::Pnode, talk, key, &announced)?;
-                Ok(part)
+                let reaction = receive(
+                    alloc,
+                    view,
+                    now,
+                    phase,
+                    Side::Pnode,
+                    terms,
+                    key,
+                    &announced,
+                )?;
+                Ok(reaction)
             }
             _ => {
-                let part = close(alloc, desk, now, phase)?;
-                Ok(part)
+                let reaction = close(alloc, view, now, phase)?;
+                Ok(reaction)
             }
         },
     }
@@ -64,38 +75,38 @@ fn receive_announced<'a, T: Texts>(
 /// The partner tells the length of the file, or gives up. The journal is legal.
 pub fn row_ask<'a, T: Texts>(
     alloc: Global,
-    desk: &Desk<T>,
+    view: &NodeView<T>,
     now: Moment,
     phase: &Phase,
-    talk: &Talk,
+    terms: &SessionTerms,
     key: &Key,
     frame: &Frame<'_>,
-) -> Result<Part<'a>, NoMemory>
-    requires { is_legal T.read desk.now.book.now.entries ≡ true }
-    ensures { IfOk result (λ part. seen_part part ≡ row_ask (desk_of T.read desk.now.config.now desk.now.book.now.entries) now phase.now talk.now key.now (message_of frame.now)) }
+) -> Result<Reaction<'a>, NoMemory>
+    requires { is_legal T.read view.now.book.now.entries ≡ true }
+    ensures { IfOk result (λ reaction. seen_reaction reaction ≡ row_ask (view_of T.read view.now.config.now view.now.book.now.entries) now phase.now terms.now key.now (message_of frame.now)) }
 {
     match frame {
         Frame::Length(step, length) => {
             if same_key(step, key) {
-                let part = receive_announced(alloc, desk, now, phase, talk, key, *length)?;
-                Ok(part)
+                let reaction = receive_announced(alloc, view, now, phase, terms, key, *length)?;
+                Ok(reaction)
             } else {
-                let part = close(alloc, desk, now, phase)?;
-                Ok(part)
+                let reaction = close(alloc, view, now, phase)?;
+                Ok(reaction)
             }
         }
         Frame::Abort(step, why) => {
             if same_key(step, key) && gives_up(*why) {
-                let part = given_up(alloc, desk, now, Side::Pnode, talk, key, *why)?;
-                Ok(part)
+                let reaction = given_up(alloc, view, now, Side::Pnode, terms, key, *why)?;
+                Ok(reaction)
             } else {
-                let part = close(alloc, desk, now, phase)?;
-                Ok(part)
+                let reaction = close(alloc, view, now, phase)?;
+                Ok(reaction)
             }
         }
         _ => {
-            let part = close(alloc, desk, now, phase)?;
-            Ok(part)
+            let reaction = close(alloc, view, now, phase)?;
+            Ok(reaction)
         }
     }
 }

@@ -1,62 +1,62 @@
 //! A step was sent.
 ghost use Rattle.std.specs.Prelude.{◌≡◌, IfOk};
 ghost use Rattle.cd_frames.specs.Message.{message_of};
-ghost use Rattle.cd_moves.specs.Rows.{row_await};
-ghost use Rattle.cd_moves.specs.Seen.{seen_part};
-ghost use Rattle.cd_parts.specs.Desk.{desk_of};
+ghost use Rattle.cd_protocol.specs.Rows.{row_await};
+ghost use Rattle.cd_protocol.specs.Seen.{seen_reaction};
+ghost use Rattle.cd_session_rules.specs.NodeView.{view_of};
 
 use cd_book::Texts;
 use cd_frames::Frame;
-use cd_moves::{Part, Phase, Source, Talk};
-use cd_parts::{Desk, close, ended, ready_with, same_key};
+use cd_protocol::{Phase, Reaction, SessionTerms, Source};
+use cd_session_rules::{NodeView, close, ended, ready_with, same_key};
 use cd_types::{Key, Moment, NoMemory, Side};
 use std::alloc::Global;
 
 /// The partner is ready for the step's source, or tells its outcome.
 pub fn row_await<'a, T: Texts>(
     alloc: Global,
-    desk: &Desk<T>,
+    view: &NodeView<T>,
     now: Moment,
     phase: &Phase,
-    talk: &Talk,
+    terms: &SessionTerms,
     key: &Key,
     source: &Option<Source>,
     frame: &Frame<'_>,
-) -> Result<Part<'a>, NoMemory>
-    ensures { IfOk result (λ part. seen_part part ≡ row_await (desk_of T.read desk.now.config.now desk.now.book.now.entries) now phase.now talk.now key.now source.now (message_of frame.now)) }
+) -> Result<Reaction<'a>, NoMemory>
+    ensures { IfOk result (λ reaction. seen_reaction reaction ≡ row_await (view_of T.read view.now.config.now view.now.book.now.entries) now phase.now terms.now key.now source.now (message_of frame.now)) }
 {
     match frame {
         Frame::Ready(step, offset) => {
             if same_key(step, key) {
-                let part = ready_with(
+                let reaction = ready_with(
                     alloc,
-                    desk,
+                    view,
                     now,
                     phase,
                     Side::Pnode,
-                    talk,
+                    terms,
                     key,
                     source,
                     *offset,
                 )?;
-                Ok(part)
+                Ok(reaction)
             } else {
-                let part = close(alloc, desk, now, phase)?;
-                Ok(part)
+                let reaction = close(alloc, view, now, phase)?;
+                Ok(reaction)
             }
         }
         Frame::Result(step, outcomes) => {
             if same_key(step, key) {
-                let part = ended(alloc, talk, key, outcomes, now)?;
-                Ok(part)
+                let reaction = ended(alloc, terms, key, outcomes, now)?;
+                Ok(reaction)
             } else {
-                let part = close(alloc, desk, now, phase)?;
-                Ok(part)
+                let reaction = close(alloc, view, now, phase)?;
+                Ok(reaction)
             }
         }
         _ => {
-            let part = close(alloc, desk, now, phase)?;
-            Ok(part)
+            let reaction = close(alloc, view, now, phase)?;
+            Ok(reaction)
         }
     }
 }

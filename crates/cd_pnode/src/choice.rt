@@ -1,16 +1,16 @@
 //! The choice of the next Process.
 ghost use Rattle.std.specs.Prelude.{◌≡◌, map, option_map, IfOk};
-ghost use Rattle.cd_moves.specs.Node.{only};
-ghost use Rattle.cd_moves.specs.Rows.{hello, connect, call, row_chosen};
-ghost use Rattle.cd_moves.specs.Seen.{seen_frame, seen_part};
-ghost use Rattle.cd_parts.specs.Desk.{seen_waits, desk_of};
+ghost use Rattle.cd_protocol.specs.Node.{only};
+ghost use Rattle.cd_protocol.specs.Rows.{hello, connect, call, row_chosen};
+ghost use Rattle.cd_protocol.specs.Seen.{seen_frame, seen_reaction};
+ghost use Rattle.cd_session_rules.specs.NodeView.{seen_waits, view_of};
 
 use crate::greet::place_in;
 use cd_book::Texts;
 use cd_entries::Entry;
 use cd_frames::Hello;
-use cd_moves::{Deed, Outgoing, Part, Phase};
-use cd_parts::{Desk, Waits, only, only_one, retried, waits_of};
+use cd_protocol::{Effect, Outgoing, Phase, Reaction};
+use cd_session_rules::{NodeView, Waits, only, only_one, retried, waits_of};
 use cd_types::{Moment, NoMemory, NodeName, Queue, Reason, Row};
 use std::alloc::Global;
 
@@ -40,37 +40,37 @@ fn hello<'a>(
 /// The partner was connected, or it wasn't.
 fn connect<'a, T: Texts>(
     alloc: Global,
-    desk: &Desk<T>,
+    view: &NodeView<T>,
     now: Moment,
     chosen: &Row,
     waits: &Waits,
     connected: bool,
-) -> Result<Part<'a>, NoMemory>
-    ensures { IfOk result (λ part. seen_part part ≡ only (connect (desk_of T.read desk.now.config.now desk.now.book.now.entries) now chosen.now (seen_waits waits.now) connected)) }
+) -> Result<Reaction<'a>, NoMemory>
+    ensures { IfOk result (λ reaction. seen_reaction reaction ≡ only (connect (view_of T.read view.now.config.now view.now.book.now.entries) now chosen.now (seen_waits waits.now) connected)) }
 {
     if connected {
-        let frames = hello(alloc, desk.book.own_home(), desk.config.block)?;
-        let part = only_one(alloc, Deed::Go(Phase::Greet(chosen.number), frames))?;
-        Ok(part)
+        let frames = hello(alloc, view.book.own_home(), view.config.block)?;
+        let reaction = only_one(alloc, Effect::Go(Phase::Greet(chosen.number), frames))?;
+        Ok(reaction)
     } else {
         let placed = retried(waits, now, &chosen.placing);
         let entry = Entry::Placed(chosen.number, placed, now);
-        let part = only_one(alloc, Deed::Keep(entry))?;
-        Ok(part)
+        let reaction = only_one(alloc, Effect::Keep(entry))?;
+        Ok(reaction)
     }
 }
 
 /// A partner is called; where the node can't call it, the Process is held.
 fn call<'a, T: Texts>(
     alloc: Global,
-    desk: &Desk<T>,
+    view: &NodeView<T>,
     now: Moment,
     connected: bool,
     chosen: &Row,
-) -> Result<Part<'a>, NoMemory>
-    ensures { IfOk result (λ part. seen_part part ≡ only (call (desk_of T.read desk.now.config.now desk.now.book.now.entries) now connected chosen.now ((desk_of T.read desk.now.config.now desk.now.book.now.entries).config.partner chosen.now.snode))) }
+) -> Result<Reaction<'a>, NoMemory>
+    ensures { IfOk result (λ reaction. seen_reaction reaction ≡ only (call (view_of T.read view.now.config.now view.now.book.now.entries) now connected chosen.now ((view_of T.read view.now.config.now view.now.book.now.entries).config.partner chosen.now.snode))) }
 {
-    match waits_of(desk.config, &chosen.snode) {
+    match waits_of(view.config, &chosen.snode) {
         None => {
             let entry = place_in(
                 chosen.number,
@@ -79,12 +79,12 @@ fn call<'a, T: Texts>(
                 Reason::UnknownNode,
                 &chosen.placing,
             );
-            let part = only_one(alloc, Deed::Keep(entry))?;
-            Ok(part)
+            let reaction = only_one(alloc, Effect::Keep(entry))?;
+            Ok(reaction)
         }
         Some(waits) => {
-            let part = connect(alloc, desk, now, chosen, &waits, connected)?;
-            Ok(part)
+            let reaction = connect(alloc, view, now, chosen, &waits, connected)?;
+            Ok(reaction)
         }
     }
 }
@@ -92,18 +92,18 @@ fn call<'a, T: Texts>(
 /// A Process was chosen, and its partner was connected or not; nothing is done where none was.
 pub fn row_chosen<'a, T: Texts>(
     alloc: Global,
-    desk: &Desk<T>,
+    view: &NodeView<T>,
     now: Moment,
     connected: bool,
     chosen: &Option<Row>,
-) -> Result<Part<'a>, NoMemory>
-    ensures { IfOk result (λ part. seen_part part ≡ only (row_chosen (desk_of T.read desk.now.config.now desk.now.book.now.entries) now connected chosen.now)) }
+) -> Result<Reaction<'a>, NoMemory>
+    ensures { IfOk result (λ reaction. seen_reaction reaction ≡ only (row_chosen (view_of T.read view.now.config.now view.now.book.now.entries) now connected chosen.now)) }
 {
     match chosen {
         None => Ok(only(Vec::new(alloc))),
         Some(chosen) => {
-            let part = call(alloc, desk, now, connected, chosen)?;
-            Ok(part)
+            let reaction = call(alloc, view, now, connected, chosen)?;
+            Ok(reaction)
         }
     }
 }

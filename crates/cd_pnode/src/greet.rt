@@ -3,20 +3,20 @@ ghost use Rattle.std.specs.Prelude.{◌≡◌, ◌∷◌, [], IfOk};
 ghost use Rattle.cd_frames.specs.Message.{message_of};
 ghost use Rattle.cd_types.specs.declared.choices.Queue.TheVariants as queue;
 ghost use Rattle.cd_types.specs.declared.choices.Reason.TheVariants as reason;
-ghost use Rattle.cd_moves.specs.declared.session.Then.TheVariants.{Next};
-ghost use Rattle.cd_moves.specs.Node.{Keep};
-ghost use Rattle.cd_moves.specs.Rows.{place_in, own_talk, held, rejected, is_called, run, row_greet};
-ghost use Rattle.cd_moves.specs.Seen.{seen_part};
-ghost use Rattle.cd_status.specs.Processes.{submission, own_home};
-ghost use Rattle.cd_status.specs.Queue.{placing};
-ghost use Rattle.cd_parts.specs.Desk.{desk_of, kept};
+ghost use Rattle.cd_protocol.specs.declared.session.Continuation.TheVariants.{Next};
+ghost use Rattle.cd_protocol.specs.Node.{Keep};
+ghost use Rattle.cd_protocol.specs.Rows.{place_in, own_terms, held, rejected, is_called, run, row_greet};
+ghost use Rattle.cd_protocol.specs.Seen.{seen_reaction};
+ghost use Rattle.cd_rules.specs.Processes.{submission, own_home};
+ghost use Rattle.cd_rules.specs.Queue.{placing};
+ghost use Rattle.cd_session_rules.specs.NodeView.{view_of, kept};
 
 use cd_book::Texts;
 use cd_entries::Entry;
 use cd_frames::{Frame, RejectCause, Welcome};
-use cd_moves::{Deed, Part, Phase, Talk, Then};
-use cd_parts::{
-    Desk, behind, behind_kept, close, is_running, later, only_one, quietly, same_bytes,
+use cd_protocol::{Continuation, Effect, Phase, Reaction, SessionTerms};
+use cd_session_rules::{
+    NodeView, behind, behind_kept, close, is_running, later, only_one, quietly, same_bytes,
 };
 use cd_types::{Moment, NoMemory, NodeName, Placing, ProcNo, Queue, Reason};
 use std::alloc::Global;
@@ -42,10 +42,16 @@ pub(crate) fn place_in(
 }
 
 /// The session of the PNODE.
-fn own_talk(name: &NodeName, home: u64, number: ProcNo, block: u32, welcome: &Welcome) -> Talk
-    ensures { result ≡ own_talk (name.now, home) number block welcome.now }
+fn own_terms(
+    name: &NodeName,
+    home: u64,
+    number: ProcNo,
+    block: u32,
+    welcome: &Welcome,
+) -> SessionTerms
+    ensures { result ≡ own_terms (name.now, home) number block welcome.now }
 {
-    Talk {
+    SessionTerms {
         partner: welcome.name,
         pnode: *name,
         home,
@@ -55,13 +61,13 @@ fn own_talk(name: &NodeName, home: u64, number: ProcNo, block: u32, welcome: &We
 }
 
 /// What is recorded where the partner isn't the one that was called, or doesn't take the session.
-fn held<T: Texts>(desk: &Desk<T>, now: Moment, number: ProcNo) -> Option<Entry>
-    ensures { kept result ≡ held (desk_of T.read desk.now.config.now desk.now.book.now.entries) now number (placing desk.now.book.now.entries number) }
+fn held<T: Texts>(view: &NodeView<T>, now: Moment, number: ProcNo) -> Option<Entry>
+    ensures { kept result ≡ held (view_of T.read view.now.config.now view.now.book.now.entries) now number (placing view.now.book.now.entries number) }
 {
-    match desk.book.placing(number) {
+    match view.book.placing(number) {
         None => None,
         Some(placed) => {
-            if desk.book.is_live(number) {
+            if view.book.is_live(number) {
                 Some(place_in(number, now, Queue::Hold, Reason::Rejected, &placed))
             } else {
                 None
@@ -72,23 +78,23 @@ fn held<T: Texts>(desk: &Desk<T>, now: Moment, number: ProcNo) -> Option<Entry>
 
 fn rejected<'a, T: Texts>(
     alloc: Global,
-    desk: &Desk<T>,
+    view: &NodeView<T>,
     now: Moment,
     number: ProcNo,
-) -> Result<Part<'a>, NoMemory>
-    ensures { IfOk result (λ part. seen_part part ≡ rejected (desk_of T.read desk.now.config.now desk.now.book.now.entries) now number) }
+) -> Result<Reaction<'a>, NoMemory>
+    ensures { IfOk result (λ reaction. seen_reaction reaction ≡ rejected (view_of T.read view.now.config.now view.now.book.now.entries) now number) }
 {
-    let entry = held(desk, now, number);
+    let entry = held(view, now, number);
     let rest = only_one(alloc, quietly(alloc, Phase::Gone))?;
-    let part = behind_kept(entry, rest)?;
-    Ok(part)
+    let reaction = behind_kept(entry, rest)?;
+    Ok(reaction)
 }
 
 /// Whether it is the partner that was called.
-fn is_called<T: Texts>(desk: &Desk<T>, number: ProcNo, name: &NodeName) -> bool
-    ensures { result ≡ is_called (submission desk.now.book.now.entries number) name.now }
+fn is_called<T: Texts>(view: &NodeView<T>, number: ProcNo, name: &NodeName) -> bool
+    ensures { result ≡ is_called (submission view.now.book.now.entries number) name.now }
 {
-    match desk.book.submission(number) {
+    match view.book.submission(number) {
         None => false,
         Some(submission) => same_bytes(name.as_bytes(), submission.card.snode.as_bytes()),
     }
@@ -99,45 +105,48 @@ fn run_placed<'a>(
     alloc: Global,
     now: Moment,
     number: ProcNo,
-    talk: &Talk,
+    terms: &SessionTerms,
     placed: &Placing,
-) -> Result<Part<'a>, NoMemory>
-    ensures { IfOk result (λ part. seen_part part ≡ record { deeds = Keep (place_in number now queue.Execution reason.Running placed.now) ∷ []; later = Next talk.now number }) }
+) -> Result<Reaction<'a>, NoMemory>
+    ensures { IfOk result (λ reaction. seen_reaction reaction ≡ record { effects = Keep (place_in number now queue.Execution reason.Running placed.now) ∷ []; later = Next terms.now number }) }
 {
     let entry = place_in(number, now, Queue::Execution, Reason::Running, placed);
-    let part = behind(Deed::Keep(entry), later(alloc, Then::Next(*talk, number)))?;
-    Ok(part)
+    let reaction = behind(
+        Effect::Keep(entry),
+        later(alloc, Continuation::Next(*terms, number)),
+    )?;
+    Ok(reaction)
 }
 
 /// The Process runs, where it may.
 fn run<'a, T: Texts>(
     alloc: Global,
-    desk: &Desk<T>,
+    view: &NodeView<T>,
     now: Moment,
     number: ProcNo,
     welcome: &Welcome,
-) -> Result<Part<'a>, NoMemory>
-    ensures { IfOk result (λ part. seen_part part ≡ run (desk_of T.read desk.now.config.now desk.now.book.now.entries) now number welcome.now (placing desk.now.book.now.entries number) (own_home desk.now.book.now.entries)) }
+) -> Result<Reaction<'a>, NoMemory>
+    ensures { IfOk result (λ reaction. seen_reaction reaction ≡ run (view_of T.read view.now.config.now view.now.book.now.entries) now number welcome.now (placing view.now.book.now.entries number) (own_home view.now.book.now.entries)) }
 {
     let phase = Phase::Greet(number);
-    match desk.book.placing(number) {
+    match view.book.placing(number) {
         None => {
-            let part = close(alloc, desk, now, &phase)?;
-            Ok(part)
+            let reaction = close(alloc, view, now, &phase)?;
+            Ok(reaction)
         }
-        Some(placed) => match desk.book.own_home() {
+        Some(placed) => match view.book.own_home() {
             None => {
-                let part = close(alloc, desk, now, &phase)?;
-                Ok(part)
+                let reaction = close(alloc, view, now, &phase)?;
+                Ok(reaction)
             }
             Some((name, home)) => {
                 if is_running(now, &placed) {
-                    let talk = own_talk(&name, home, number, desk.config.block, welcome);
-                    let part = run_placed(alloc, now, number, &talk, &placed)?;
-                    Ok(part)
+                    let terms = own_terms(&name, home, number, view.config.block, welcome);
+                    let reaction = run_placed(alloc, now, number, &terms, &placed)?;
+                    Ok(reaction)
                 } else {
-                    let part = close(alloc, desk, now, &phase)?;
-                    Ok(part)
+                    let reaction = close(alloc, view, now, &phase)?;
+                    Ok(reaction)
                 }
             }
         },
@@ -147,34 +156,34 @@ fn run<'a, T: Texts>(
 /// The partner takes the session, or it doesn't.
 pub fn row_greet<'a, T: Texts>(
     alloc: Global,
-    desk: &Desk<T>,
+    view: &NodeView<T>,
     now: Moment,
     number: ProcNo,
     frame: &Frame<'_>,
-) -> Result<Part<'a>, NoMemory>
-    ensures { IfOk result (λ part. seen_part part ≡ row_greet (desk_of T.read desk.now.config.now desk.now.book.now.entries) now number (message_of frame.now)) }
+) -> Result<Reaction<'a>, NoMemory>
+    ensures { IfOk result (λ reaction. seen_reaction reaction ≡ row_greet (view_of T.read view.now.config.now view.now.book.now.entries) now number (message_of frame.now)) }
 {
     match frame {
         Frame::Welcome(welcome) => {
-            if is_called(desk, number, &welcome.name) {
-                let part = run(alloc, desk, now, number, welcome)?;
-                Ok(part)
+            if is_called(view, number, &welcome.name) {
+                let reaction = run(alloc, view, now, number, welcome)?;
+                Ok(reaction)
             } else {
-                let part = rejected(alloc, desk, now, number)?;
-                Ok(part)
+                let reaction = rejected(alloc, view, now, number)?;
+                Ok(reaction)
             }
         }
         Frame::Reject(RejectCause::Busy(_)) => {
-            let part = close(alloc, desk, now, &Phase::Greet(number))?;
-            Ok(part)
+            let reaction = close(alloc, view, now, &Phase::Greet(number))?;
+            Ok(reaction)
         }
         Frame::Reject(_) => {
-            let part = rejected(alloc, desk, now, number)?;
-            Ok(part)
+            let reaction = rejected(alloc, view, now, number)?;
+            Ok(reaction)
         }
         _ => {
-            let part = close(alloc, desk, now, &Phase::Greet(number))?;
-            Ok(part)
+            let reaction = close(alloc, view, now, &Phase::Greet(number))?;
+            Ok(reaction)
         }
     }
 }

@@ -1,14 +1,14 @@
 //! The step that comes next.
 ghost use Rattle.std.specs.Prelude.{◌≡◌, IfOk};
-ghost use Rattle.cd_legal.specs.Steps.{what_at};
-ghost use Rattle.cd_moves.specs.Seen.{seen_part};
-ghost use Rattle.cd_moves.specs.Sending.{key_at, begin, source_known, next};
-ghost use Rattle.cd_parts.specs.Desk.{desk_of};
+ghost use Rattle.cd_rules.specs.Steps.{what_at};
+ghost use Rattle.cd_protocol.specs.Seen.{seen_reaction};
+ghost use Rattle.cd_protocol.specs.Sending.{key_at, begin, source_known, next};
+ghost use Rattle.cd_session_rules.specs.NodeView.{view_of};
 
 use cd_ast::What;
 use cd_book::Texts;
-use cd_moves::{Part, Phase, Talk};
-use cd_parts::{Desk, close, copy, ended, finish, push};
+use cd_protocol::{Phase, Reaction, SessionTerms};
+use cd_session_rules::{NodeView, close, copy, ended, finish, push};
 use cd_types::{Key, Moment, NoMemory, NodeName, ProcNo};
 use std::alloc::Global;
 
@@ -36,27 +36,27 @@ fn key_at(number: ProcNo, place: usize, own: Option<(NodeName, u64)>) -> Option<
 /// A step is begun by its statement; the end has none.
 fn begin<'a, T: Texts>(
     alloc: Global,
-    desk: &Desk<T>,
+    view: &NodeView<T>,
     now: Moment,
     phase: &Phase,
-    talk: &Talk,
+    terms: &SessionTerms,
     key: &Key,
-) -> Result<Part<'a>, NoMemory>
-    ensures { IfOk result (λ part. seen_part part ≡ begin (desk_of T.read desk.now.config.now desk.now.book.now.entries) now phase.now talk.now key.now (what_at T.read desk.now.book.now.entries key.now.number key.now.place)) }
+) -> Result<Reaction<'a>, NoMemory>
+    ensures { IfOk result (λ reaction. seen_reaction reaction ≡ begin (view_of T.read view.now.config.now view.now.book.now.entries) now phase.now terms.now key.now (what_at T.read view.now.book.now.entries key.now.number key.now.place)) }
 {
-    match desk.book.what_at(key.number, key.place as usize) {
+    match view.book.what_at(key.number, key.place as usize) {
         None => {
-            let part = finish(alloc, now, key.home, key.number)?;
-            Ok(part)
+            let reaction = finish(alloc, now, key.home, key.number)?;
+            Ok(reaction)
         }
         Some(what) => match what {
             What::Copy(step) => {
-                let part = copy(alloc, talk, key, step)?;
-                Ok(part)
+                let reaction = copy(alloc, terms, key, step)?;
+                Ok(reaction)
             }
             _ => {
-                let part = close(alloc, desk, now, phase)?;
-                Ok(part)
+                let reaction = close(alloc, view, now, phase)?;
+                Ok(reaction)
             }
         },
     }
@@ -65,27 +65,27 @@ fn begin<'a, T: Texts>(
 /// The step that comes next is taken.
 pub fn next<'a, T: Texts>(
     alloc: Global,
-    desk: &Desk<T>,
+    view: &NodeView<T>,
     now: Moment,
     phase: &Phase,
-    talk: &Talk,
+    terms: &SessionTerms,
     number: ProcNo,
-) -> Result<Part<'a>, NoMemory>
-    ensures { IfOk result (λ part. seen_part part ≡ next (desk_of T.read desk.now.config.now desk.now.book.now.entries) now phase.now talk.now number) }
+) -> Result<Reaction<'a>, NoMemory>
+    ensures { IfOk result (λ reaction. seen_reaction reaction ≡ next (view_of T.read view.now.config.now view.now.book.now.entries) now phase.now terms.now number) }
 {
-    match key_at(number, desk.book.next_place(number), desk.book.own_home()) {
+    match key_at(number, view.book.next_place(number), view.book.own_home()) {
         None => {
-            let part = close(alloc, desk, now, phase)?;
-            Ok(part)
+            let reaction = close(alloc, view, now, phase)?;
+            Ok(reaction)
         }
-        Some(key) => match desk.book.outcome(&key) {
+        Some(key) => match view.book.outcome(&key) {
             None => {
-                let part = begin(alloc, desk, now, phase, talk, &key)?;
-                Ok(part)
+                let reaction = begin(alloc, view, now, phase, terms, &key)?;
+                Ok(reaction)
             }
             Some(outcomes) => {
-                let part = ended(alloc, talk, &key, &outcomes, now)?;
-                Ok(part)
+                let reaction = ended(alloc, terms, &key, &outcomes, now)?;
+                Ok(reaction)
             }
         },
     }
@@ -94,28 +94,28 @@ pub fn next<'a, T: Texts>(
 /// The source of a push was asked for its length.
 pub fn source_known<'a, T: Texts>(
     alloc: Global,
-    desk: &Desk<T>,
+    view: &NodeView<T>,
     now: Moment,
     phase: &Phase,
-    talk: &Talk,
+    terms: &SessionTerms,
     key: &Key,
     size: Option<u64>,
-) -> Result<Part<'a>, NoMemory>
-    ensures { IfOk result (λ part. seen_part part ≡ source_known (desk_of T.read desk.now.config.now desk.now.book.now.entries) now phase.now talk.now key.now size) }
+) -> Result<Reaction<'a>, NoMemory>
+    ensures { IfOk result (λ reaction. seen_reaction reaction ≡ source_known (view_of T.read view.now.config.now view.now.book.now.entries) now phase.now terms.now key.now size) }
 {
-    match desk.book.what_at(key.number, key.place as usize) {
+    match view.book.what_at(key.number, key.place as usize) {
         None => {
-            let part = close(alloc, desk, now, phase)?;
-            Ok(part)
+            let reaction = close(alloc, view, now, phase)?;
+            Ok(reaction)
         }
         Some(what) => match what {
             What::Copy(step) => {
-                let part = push(alloc, talk, key, step, size)?;
-                Ok(part)
+                let reaction = push(alloc, terms, key, step, size)?;
+                Ok(reaction)
             }
             _ => {
-                let part = close(alloc, desk, now, phase)?;
-                Ok(part)
+                let reaction = close(alloc, view, now, phase)?;
+                Ok(reaction)
             }
         },
     }

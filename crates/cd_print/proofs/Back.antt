@@ -16,7 +16,7 @@ use Rattle.cd_grammar.specs.Grammar as g
 use Rattle.cd_grammar.specs.Reading.{Reading, named, ended}
 use Rattle.cd_grammar.specs.Tokens.{Out, without_commas, tokens_of}
 use Rattle.cd_grammar.specs.Faults.{process_of, IsRead}
-use Rattle.cd_machine.specs.Ranges.{passes, within, is_timed}
+use Rattle.cd_automaton.specs.Ranges.{passes, within, is_timed}
 use Rattle.cd_print.specs.Printable.{IsPrintable}
 use Rattle.cd_print.proofs.Cuts.{spans_are}
 use Rattle.cd_print.proofs.Tails.{Reads, tail}

@@ -3,7 +3,7 @@ use Rattle.std.proofs.Common.{◌≡◌, ℕ, ◌≤◌, true, List, [], length,
 use Rattle.cd_ast.specs.declared.process.Process.{Process}
 use Rattle.cd_ast.specs.Pieces.{pieces_of, bytes_of}
 use Rattle.cd_grammar.specs.Faults.{InGrammar}
-use Rattle.cd_machine.specs.Ranges.{passes, is_card, are_stmts}
+use Rattle.cd_automaton.specs.Ranges.{passes, is_card, are_stmts}
 use Rattle.cd_print.specs.Printable.{IsPrintable, AreQuotable, AreNested, HaveGoodTexts, is_day}
 use Rattle.cd_print.proofs.Clean.{text_clean}
 use Rattle.cd_print.proofs.Origin.{FineReading, all_fine, nests_are}

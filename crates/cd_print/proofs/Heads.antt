@@ -24,7 +24,7 @@ use Rattle.cd_grammar.specs.Reading.{Reading, slot_of}
 use Rattle.cd_grammar.specs.Tokens.{Side, Out, In}
 use Rattle.cd_grammar.specs.Values.{number_in, interval_in, symbol_in, file_in, node_in, is_command, disp_in, restart_in}
 use Rattle.cd_grammar.specs.Words.{key_of, said_in}
-use Rattle.cd_machine.specs.Ranges.{passes, within}
+use Rattle.cd_automaton.specs.Ranges.{passes, within}
 use Rattle.cd_print.proofs.Cuts.{is_plain, begins_well, stops}
 use Rattle.cd_print.proofs.Tails.{Reads, onward, on_blank, on_word, is_outside}
 use Rattle.cd_print.proofs.Words.{word_outside, label_read, fits_taken, labels_plain, label_begins, nodes_plain, node_begins, number_digits, digits_plain, digits_begin}
@@ -45,7 +45,7 @@ use Rattle.cd_grammar.specs.Reading.{named}
 use Rattle.cd_grammar.specs.Starts.{clock_in, plain_time, time_in, time_by, day_in}
 use Rattle.cd_grammar.specs.Values.{hold_in, retain_in, label_in}
 use Rattle.cd_grammar.specs.Grammar.{started}
-use Rattle.cd_machine.specs.Ranges.{is_card, is_timed}
+use Rattle.cd_automaton.specs.Ranges.{is_card, is_timed}
 use Rattle.cd_print.specs.Printable.{is_day}
 use Rattle.cd_print.proofs.Fronts.{day_word, time_word, start_front, head_front}
 use Rattle.cd_print.proofs.Tails.{on_inner, on_sign}

@@ -30,7 +30,7 @@ use Rattle.cd_ast.specs.declared.process.SubmitStep.{SubmitStep}
 use Rattle.cd_ast.specs.declared.process.What.{What}
 use Rattle.cd_ast.specs.declared.process.What.TheVariants as what
 use Rattle.cd_ast.specs.Canonical.{quote_of, quoted_onto, side_word, hold_word, retain_word, disp_word, relation_sign, source_word, target_word, weekday, day_onto, start_onto, interval_onto, ckpt_onto, snode_onto, prty_onto, head_onto, end_onto, copy_onto, run_word, restart_text, task_onto, symbols_onto, submit_onto, what_onto, label_onto, stmt_onto, stmts_onto, canonical}
-use Rattle.cd_machine.specs.Ranges.{passes, within, is_timed, is_interval, is_card, is_what, is_stmt, are_stmts}
+use Rattle.cd_automaton.specs.Ranges.{passes, within, is_timed, is_interval, is_card, is_what, is_stmt, are_stmts}
 use Rattle.cd_print.proofs.Grows.{pairs_size, said_size, stmts_size}
 
 -- what a test of several parts says

@@ -40,7 +40,7 @@ use Rattle.cd_types.specs.declared.start.Day.TheVariants as day
 use Rattle.cd_grammar.specs.Starts.{day_in, date_in, named_days, two, are_two}
 use Rattle.cd_grammar.specs.Words.{said_in, or_else, is_word}
 use Rattle.cd_grammar.specs.Reading.{has_depth}
-use Rattle.cd_machine.specs.Ranges.{passes}
+use Rattle.cd_automaton.specs.Ranges.{passes}
 use Rattle.std.specs.Char.{is_ascii_digit}
 use Rattle.cd_print.specs.Printable.{is_quotable, is_symbol_name, are_symbols, with_all, IsQuotable, AreQuotable, behind, AreNested, is_day, IsGoodText, HaveGoodValues, HasGoodTexts, HaveGoodTexts}
 

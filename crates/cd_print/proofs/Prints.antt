@@ -29,7 +29,7 @@ use Rattle.cd_ast.specs.declared.process.What.{What}
 use Rattle.cd_ast.specs.declared.process.What.TheVariants as what
 use Rattle.cd_ast.specs.Bytes.{is_refused}
 use Rattle.cd_ast.specs.Canonical.{side_word, disp_word, relation_sign, source_word, target_word, hold_word, retain_word, digit_of, weekday, canonical}
-use Rattle.cd_machine.specs.Ranges.{passes, within, is_interval, is_card, is_timed, is_what, is_stmt, are_stmts}
+use Rattle.cd_automaton.specs.Ranges.{passes, within, is_interval, is_card, is_timed, is_what, is_stmt, are_stmts}
 use Rattle.cd_print.specs.Printable.{is_symbol_name, is_quotable, are_symbols, IsQuotable, AreQuotable, is_day, IsPrintable, IsGoodText, HaveGoodValues, HasGoodTexts, HaveGoodTexts}
 use Rattle.cd_print.proofs.Bytes.{IsGood}
 use Rattle.cd_print.proofs.Texts.{good_append, good_word, in_front, quoted_good, digits_good, is_clear, range_clear, both_are, first_is, second_is}

@@ -49,7 +49,7 @@ use Rattle.cd_grammar.specs.Reading.{Reading, stored, ended, slot_of, has_room, 
 use Rattle.cd_grammar.specs.Tokens.{Side, Out}
 use Rattle.cd_grammar.specs.Values.{number_in, interval_in, symbol_in, file_in, node_in, is_command, disp_in, restart_in}
 use Rattle.cd_grammar.specs.Words.{key_of, sign_of, said_in}
-use Rattle.cd_machine.specs.Ranges.{passes, within, is_interval}
+use Rattle.cd_automaton.specs.Ranges.{passes, within, is_interval}
 use Rattle.cd_print.specs.Printable.{is_quotable, is_symbol_name, are_symbols, with_all, IsQuotable}
 use Rattle.cd_print.proofs.Cuts.{is_plain, begins_well, stops, begins_equal}
 use Rattle.cd_print.proofs.Tails.{Reads, onward, on_blank, on_word, is_outside}

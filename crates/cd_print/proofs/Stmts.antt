@@ -21,12 +21,12 @@ use Rattle.cd_grammar.specs.Grammar as g
 use Rattle.cd_grammar.specs.Reading.{Reading, ended, has_room}
 use Rattle.cd_grammar.specs.Tokens.{Side}
 use Rattle.cd_grammar.specs.Words.{key_of}
-use Rattle.cd_machine.specs.Ranges.{passes}
+use Rattle.cd_automaton.specs.Ranges.{passes}
 use Rattle.cd_print.specs.Printable.{IsQuotable}
 use Rattle.cd_print.proofs.Tails.{Reads, onward, on_blank, on_line, on_word, is_outside}
 use Rattle.cd_print.proofs.Words.{word_outside, front_read, fits_taken, labels_plain, label_begins}
 use Rattle.cd_print.proofs.Fronts.{what_front, label_front}
-use Rattle.cd_machine.specs.Ranges.{is_stmt, are_stmts, is_what}
+use Rattle.cd_automaton.specs.Ranges.{is_stmt, are_stmts, is_what}
 use Rattle.cd_print.specs.Printable.{behind, behind_else, behind_eif, AreNested, AreQuotable}
 use Rattle.cd_print.proofs.Fronts.{stmts_front}
 use Rattle.cd_print.proofs.Tails.{on_end}

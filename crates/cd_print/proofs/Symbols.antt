@@ -12,7 +12,7 @@ use Rattle.cd_ast.specs.declared.process.What.TheVariants as what
 use Rattle.cd_grammar.specs.Tokens.{tokens_of}
 use Rattle.cd_grammar.specs.Faults.{InGrammar, longest_text}
 use Rattle.cd_ast.specs.Canonical.{canonical}
-use Rattle.cd_machine.specs.Ranges.{is_card, are_stmts}
+use Rattle.cd_automaton.specs.Ranges.{is_card, are_stmts}
 use Rattle.cd_print.proofs.Lengths.{print_length}
 use Rattle.cd_print.specs.Sizes.{symbols_size, has_small_symbols}
 use Rattle.cd_print.proofs.Weights.{heft, text_weighs}

@@ -11,7 +11,7 @@ use Rattle.cd_ast.specs.declared.process.What.TheVariants as what
 use Rattle.cd_types.specs.declared.start.Day.{Day}
 use Rattle.cd_types.specs.declared.start.Day.TheVariants as day
 use Rattle.cd_ast.specs.declared.process.Process.{Process}
-use Rattle.cd_machine.specs.Ranges.{passes, is_card, are_stmts}
+use Rattle.cd_automaton.specs.Ranges.{passes, is_card, are_stmts}
 
 -- a text that hasn't both quotes
 abbrev pub is_quotable : List ℕ → Bool

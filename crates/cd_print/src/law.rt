@@ -12,8 +12,8 @@ ghost use Rattle.cd_grammar.specs.Faults.{InGrammar, Says, IsRead, process_of, l
 ghost use Rattle.cd_print.specs.Sizes.{has_small_symbols};
 ghost use Rattle.cd_print.specs.Printable.{HaveGoodTexts, IsPrintable};
 
+use cd_automaton::{law_of_printed_values, law_of_ranges};
 use cd_lexer::law_of_tokens;
-use cd_machine::{law_of_printed_values, law_of_ranges};
 
 /// A Process that a text says after substitution is printed in at most 200,000 bytes, and the values that each of its SUBMITs
 /// gives to names have at most 120,000. So it is of a text that is read as it stands, where that is no longer than a text after

@@ -16,7 +16,7 @@ impl SystemClock {
 }
 
 impl Clock for SystemClock {
-    ghost told = { ⊥ };
+    ghost observable = { ⊥ };
 
     ghost moment = { λ _. 0 };
 

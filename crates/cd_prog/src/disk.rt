@@ -84,7 +84,7 @@ fn length(file: &File) -> io::Result<u64> {
 }
 
 impl Disk for FileDisk {
-    ghost told = { ⊥ };
+    ghost observable = { ⊥ };
 
     ghost state = { λ _. record { seen = []; doubt = settled []; calls = [] } };
 

@@ -36,7 +36,7 @@ impl SystemFiles {
 }
 
 impl Files for SystemFiles {
-    ghost told = { ⊥ };
+    ghost observable = { ⊥ };
 
     ghost state = { λ _. files_at_first (λ name. None) };
 

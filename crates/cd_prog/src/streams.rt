@@ -32,7 +32,7 @@ fn read_once<R: Read>(reader: &mut R, into: &mut [u8]) -> io::Result<usize>
 }
 
 impl<R: Read + Drop> Source for StandardInput<R> {
-    ghost told = { ⊥ };
+    ghost observable = { ⊥ };
 
     ghost remaining = { λ _. [] };
 
@@ -69,7 +69,7 @@ fn write_bytes(rt: &HostRuntime, bytes: &[u8]) -> io::Result<()> {
 }
 
 impl Sink for StandardOutput {
-    ghost told = { ⊥ };
+    ghost observable = { ⊥ };
 
     ghost taken = { λ _. [] };
 

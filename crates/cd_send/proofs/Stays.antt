@@ -3,7 +3,7 @@ use Rattle.std.proofs.Common.{◌≡◌, ℕ, ◌+◌, ◌-◌, ◌<◌, ◌≤�
 use Rattle.std.proofs.lemmas.Bool.{cases_lt, or_cases, or_right, eqb-true, false≢true}
 use Rattle.cd_outside.specs.Cuts.{is_cut}
 use Rattle.cd_pieces.specs.Piece.{piece_end, IsReached, IsNextCut}
-use Rattle.cd_pieces.specs.PieceLaw.{piece_end-next_cut}
+use Rattle.cd_pieces.proofs.PieceLaw.{piece_end-next_cut}
 use Rattle.cd_send.specs.Sending.{Sending, is_reached, IsSending, awaited, next_end}
 
 reached : (s : Sending) (offset : ℕ) → is_reached s offset ≡ true → IsReached s.length s.block s.interval s.start offset

@@ -51,9 +51,9 @@ impl Model for Sender {
 /// Reads from a place on; whether the whole buffer was filled.
 fn fills<F: Files>(files: &mut F, name: &[u8], at: u64, into: &mut [u8]) -> Result<bool, Failed>
     requires { 0 < length into.old }
-    ensures same { F.told → F.state files.new ≡ F.state files.old }
-    ensures whole { F.told → IfOk result (λ whole. IsTrue whole ↔ (at + length into.old ≤ length (content_of ((F.state files.old).shelf.seen name.now)))) }
-    ensures bytes { F.told → IfOk result (λ whole. IsTrue whole → into.new ≡ take (length into.old) (drop at (content_of ((F.state files.old).shelf.seen name.now)))) }
+    ensures same { F.observable → F.state files.new ≡ F.state files.old }
+    ensures whole { F.observable → IfOk result (λ whole. IsTrue whole ↔ (at + length into.old ≤ length (content_of ((F.state files.old).shelf.seen name.now)))) }
+    ensures bytes { F.observable → IfOk result (λ whole. IsTrue whole → into.new ≡ take (length into.old) (drop at (content_of ((F.state files.old).shelf.seen name.now)))) }
     ensures later { F.faults files.old ≤ F.faults files.new }
     ensures cause { IfErr result (λ _. Rose (F.faults files.old) (F.faults files.new)) }
 {
@@ -95,10 +95,10 @@ impl Sender {
         requires { (self.old).block ≤ length into.old }
         ensures next { IfOk result (λ piece. IsNext self.old self.new piece) }
         ensures cut { IfOk result (λ piece. EndsAtCut self.old piece) }
-        ensures read { F.told → IfOk result (λ piece. IsRead (content_of ((F.state files.old).shelf.seen name.now)) into.new piece) }
+        ensures read { F.observable → IfOk result (λ piece. IsRead (content_of ((F.state files.old).shelf.seen name.now)) into.new piece) }
         ensures fault { IfErr result (λ fault. IsFault self.old self.new fault) }
-        ensures short { F.told → IfErr result (λ fault. IsShort self.old (content_of ((F.state files.old).shelf.seen name.now)) fault) }
-        ensures same { F.told → F.state files.new ≡ F.state files.old }
+        ensures short { F.observable → IfErr result (λ fault. IsShort self.old (content_of ((F.state files.old).shelf.seen name.now)) fault) }
+        ensures same { F.observable → F.state files.new ≡ F.state files.old }
         ensures later { F.faults files.old ≤ F.faults files.new }
         ensures cause { result ≡ Err SendFault.Files → Rose (F.faults files.old) (F.faults files.new) }
     {

@@ -34,7 +34,7 @@ fn begin(beat: &mut Beat)
 }
 
 impl Files for Given {
-    ghost told = { ⊥ };
+    ghost observable = { ⊥ };
 
     ghost state = { λ _. files_at_first (λ _. None) };
 

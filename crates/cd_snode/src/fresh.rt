@@ -1,22 +1,22 @@
 //! Hello comes.
 ghost use Rattle.std.specs.Prelude.{◌≡◌, min, None, IfOk};
 ghost use Rattle.cd_frames.specs.Message.{message_of};
-ghost use Rattle.cd_moves.specs.Rows.{welcome, row_fresh};
-ghost use Rattle.cd_moves.specs.Seen.{seen_part};
-ghost use Rattle.cd_parts.specs.Desk.{desk_of};
+ghost use Rattle.cd_protocol.specs.Rows.{welcome, row_fresh};
+ghost use Rattle.cd_protocol.specs.Seen.{seen_reaction};
+ghost use Rattle.cd_session_rules.specs.NodeView.{view_of};
 
 use cd_book::Texts;
 use cd_frames::{Frame, Hello, Welcome};
-use cd_moves::{Outgoing, Part, Phase, Talk};
-use cd_parts::{Desk, close, go, only_one, quietly};
+use cd_protocol::{Outgoing, Phase, Reaction, SessionTerms};
+use cd_session_rules::{NodeView, close, go, only_one, quietly};
 use cd_types::{Moment, NoMemory, NodeName};
 use std::alloc::Global;
 
 /// What holds for a session with the node that says this Hello.
-fn talk_with(block: u32, hello: &Hello) -> Talk
+fn terms_with(block: u32, hello: &Hello) -> SessionTerms
     ensures { result ≡ record { partner = hello.now.name; pnode = hello.now.name; home = hello.now.home; number = None; block = min hello.now.block block } }
 {
-    Talk {
+    SessionTerms {
         partner: hello.name,
         pnode: hello.name,
         home: hello.home,
@@ -31,20 +31,20 @@ fn welcome<'a>(
     own: Option<(NodeName, u64)>,
     block: u32,
     hello: &Hello,
-) -> Result<Part<'a>, NoMemory>
-    ensures { IfOk result (λ part. seen_part part ≡ welcome own block hello.now) }
+) -> Result<Reaction<'a>, NoMemory>
+    ensures { IfOk result (λ reaction. seen_reaction reaction ≡ welcome own block hello.now) }
 {
     match own {
         None => {
-            let part = only_one(alloc, quietly(alloc, Phase::Gone))?;
-            Ok(part)
+            let reaction = only_one(alloc, quietly(alloc, Phase::Gone))?;
+            Ok(reaction)
         }
         Some((name, home)) => {
             let answer = Welcome { name, home, block };
-            let phase = Phase::Ready(talk_with(block, hello), None);
+            let phase = Phase::Ready(terms_with(block, hello), None);
             let done = go(alloc, phase, Outgoing::Welcome(answer))?;
-            let part = only_one(alloc, done)?;
-            Ok(part)
+            let reaction = only_one(alloc, done)?;
+            Ok(reaction)
         }
     }
 }
@@ -52,20 +52,20 @@ fn welcome<'a>(
 /// The first frame of an accepted session.
 pub fn row_fresh<'a, T: Texts>(
     alloc: Global,
-    desk: &Desk<T>,
+    view: &NodeView<T>,
     now: Moment,
     frame: &Frame<'_>,
-) -> Result<Part<'a>, NoMemory>
-    ensures { IfOk result (λ part. seen_part part ≡ row_fresh (desk_of T.read desk.now.config.now desk.now.book.now.entries) now (message_of frame.now)) }
+) -> Result<Reaction<'a>, NoMemory>
+    ensures { IfOk result (λ reaction. seen_reaction reaction ≡ row_fresh (view_of T.read view.now.config.now view.now.book.now.entries) now (message_of frame.now)) }
 {
     match frame {
         Frame::Hello(hello) => {
-            let part = welcome(alloc, desk.book.own_home(), desk.config.block, hello)?;
-            Ok(part)
+            let reaction = welcome(alloc, view.book.own_home(), view.config.block, hello)?;
+            Ok(reaction)
         }
         _ => {
-            let part = close(alloc, desk, now, &Phase::Fresh)?;
-            Ok(part)
+            let reaction = close(alloc, view, now, &Phase::Fresh)?;
+            Ok(reaction)
         }
     }
 }

@@ -6,7 +6,7 @@ mod fresh;
 mod offer;
 mod ready;
 mod take_step;
-mod talk;
+mod terms;
 
 pub use fresh::row_fresh;
 pub use offer::{offered, row_offer};

@@ -2,18 +2,18 @@
 ghost use Rattle.std.specs.Prelude.{◌≡◌, true, IfOk};
 ghost use Rattle.cd_frames.specs.Message as message;
 ghost use Rattle.cd_frames.specs.Message.{message_of};
-ghost use Rattle.cd_legal.specs.Legal.{is_legal};
-ghost use Rattle.cd_moves.specs.Rows.{is_in_place, row_ready};
-ghost use Rattle.cd_moves.specs.Seen.{seen_part};
-ghost use Rattle.cd_parts.specs.Desk.{desk_of};
+ghost use Rattle.cd_rules.specs.Legal.{is_legal};
+ghost use Rattle.cd_protocol.specs.Rows.{is_in_place, row_ready};
+ghost use Rattle.cd_protocol.specs.Seen.{seen_reaction};
+ghost use Rattle.cd_session_rules.specs.NodeView.{view_of};
 
 use crate::forget::forget;
 use crate::take_step::take_step;
-use crate::talk::{is_number_of, with_number};
+use crate::terms::{is_number_of, with_number};
 use cd_book::Texts;
 use cd_frames::Frame;
-use cd_moves::{Announced, Part, Phase, Talk, Then};
-use cd_parts::{Desk, Sessions, close, given_up, later, only_one, quietly, receive};
+use cd_protocol::{Announced, Continuation, Phase, Reaction, SessionTerms};
+use cd_session_rules::{NodeView, Sessions, close, given_up, later, only_one, quietly, receive};
 use cd_types::{Bytes, Cause, Key, Moment, NoMemory, ProcNo, Side};
 use std::alloc::Global;
 
@@ -27,116 +27,116 @@ fn is_in_place(why: Cause) -> bool
 /// The partner sends a file. The journal is legal.
 fn copy_to<'a, T: Texts, S: Sessions>(
     alloc: Global,
-    desk: &Desk<T>,
+    view: &NodeView<T>,
     sessions: &S,
     now: Moment,
     sid: u64,
     phase: &Phase,
-    talk: &Talk,
+    terms: &SessionTerms,
     last: &Option<Key>,
     key: &Key,
     announced: &Announced,
-) -> Result<Part<'a>, NoMemory>
-    requires { is_legal T.read desk.now.book.now.entries ≡ true }
-    ensures { IfOk result (λ part. seen_part part ≡ row_ready (desk_of T.read desk.now.config.now desk.now.book.now.entries) (S.seen sessions.now) now sid phase.now talk.now last.now (message.StepCopyTo key.now announced.now.name announced.now.disp announced.now.interval announced.now.length)) }
+) -> Result<Reaction<'a>, NoMemory>
+    requires { is_legal T.read view.now.book.now.entries ≡ true }
+    ensures { IfOk result (λ reaction. seen_reaction reaction ≡ row_ready (view_of T.read view.now.config.now view.now.book.now.entries) (S.seen sessions.now) now sid phase.now terms.now last.now (message.StepCopyTo key.now announced.now.name announced.now.disp announced.now.interval announced.now.length)) }
 {
-    let own = with_number(key.number, talk);
+    let own = with_number(key.number, terms);
     let ready = Phase::Ready(own, Some(*key));
-    let row = receive(alloc, desk, now, &ready, Side::Snode, &own, key, announced)?;
-    let part = take_step(alloc, desk, sessions, now, sid, phase, talk, key, row)?;
-    Ok(part)
+    let row = receive(alloc, view, now, &ready, Side::Snode, &own, key, announced)?;
+    let reaction = take_step(alloc, view, sessions, now, sid, phase, terms, key, row)?;
+    Ok(reaction)
 }
 
 /// The partner asks for a file.
 fn copy_from<'a, T: Texts, S: Sessions>(
     alloc: Global,
-    desk: &Desk<T>,
+    view: &NodeView<T>,
     sessions: &S,
     now: Moment,
     sid: u64,
     phase: &Phase,
-    talk: &Talk,
+    terms: &SessionTerms,
     last: &Option<Key>,
     key: &Key,
     name: &[u8],
     interval: u64,
-) -> Result<Part<'a>, NoMemory>
-    ensures { IfOk result (λ part. seen_part part ≡ row_ready (desk_of T.read desk.now.config.now desk.now.book.now.entries) (S.seen sessions.now) now sid phase.now talk.now last.now (message.StepCopyFrom key.now name.now interval)) }
+) -> Result<Reaction<'a>, NoMemory>
+    ensures { IfOk result (λ reaction. seen_reaction reaction ≡ row_ready (view_of T.read view.now.config.now view.now.book.now.entries) (S.seen sessions.now) now sid phase.now terms.now last.now (message.StepCopyFrom key.now name.now interval)) }
 {
     let name = Bytes::copy_of(alloc, name)?;
-    let own = with_number(key.number, talk);
-    let row = later(alloc, Then::Offered(own, *key, name, interval));
-    let part = take_step(alloc, desk, sessions, now, sid, phase, talk, key, row)?;
-    Ok(part)
+    let own = with_number(key.number, terms);
+    let row = later(alloc, Continuation::Offered(own, *key, name, interval));
+    let reaction = take_step(alloc, view, sessions, now, sid, phase, terms, key, row)?;
+    Ok(reaction)
 }
 
 /// The partner gives up a push in the place of its step.
 fn abort<'a, T: Texts, S: Sessions>(
     alloc: Global,
-    desk: &Desk<T>,
+    view: &NodeView<T>,
     sessions: &S,
     now: Moment,
     sid: u64,
     phase: &Phase,
-    talk: &Talk,
+    terms: &SessionTerms,
     last: &Option<Key>,
     key: &Key,
     why: Cause,
-) -> Result<Part<'a>, NoMemory>
-    ensures { IfOk result (λ part. seen_part part ≡ row_ready (desk_of T.read desk.now.config.now desk.now.book.now.entries) (S.seen sessions.now) now sid phase.now talk.now last.now (message.Abort key.now why)) }
+) -> Result<Reaction<'a>, NoMemory>
+    ensures { IfOk result (λ reaction. seen_reaction reaction ≡ row_ready (view_of T.read view.now.config.now view.now.book.now.entries) (S.seen sessions.now) now sid phase.now terms.now last.now (message.Abort key.now why)) }
 {
     if is_in_place(why) {
-        let own = with_number(key.number, talk);
-        let row = given_up(alloc, desk, now, Side::Snode, &own, key, why)?;
-        let part = take_step(alloc, desk, sessions, now, sid, phase, talk, key, row)?;
-        Ok(part)
+        let own = with_number(key.number, terms);
+        let row = given_up(alloc, view, now, Side::Snode, &own, key, why)?;
+        let reaction = take_step(alloc, view, sessions, now, sid, phase, terms, key, row)?;
+        Ok(reaction)
     } else {
-        let part = close(alloc, desk, now, phase)?;
-        Ok(part)
+        let reaction = close(alloc, view, now, phase)?;
+        Ok(reaction)
     }
 }
 
 /// The partner's Process is over: it is forgotten, where nothing is being received for it.
 fn forget_it<'a, T: Texts, S: Sessions>(
     alloc: Global,
-    desk: &Desk<T>,
+    view: &NodeView<T>,
     sessions: &S,
     now: Moment,
     sid: u64,
     phase: &Phase,
-    talk: &Talk,
+    terms: &SessionTerms,
     last: &Option<Key>,
     home: u64,
     number: ProcNo,
-) -> Result<Part<'a>, NoMemory>
-    ensures { IfOk result (λ part. seen_part part ≡ row_ready (desk_of T.read desk.now.config.now desk.now.book.now.entries) (S.seen sessions.now) now sid phase.now talk.now last.now (message.Forget home number)) }
+) -> Result<Reaction<'a>, NoMemory>
+    ensures { IfOk result (λ reaction. seen_reaction reaction ≡ row_ready (view_of T.read view.now.config.now view.now.book.now.entries) (S.seen sessions.now) now sid phase.now terms.now last.now (message.Forget home number)) }
 {
-    if home == talk.home
-        && is_number_of(talk.number, number)
-        && !desk.book.is_receiving_for(&talk.pnode, home, number)
+    if home == terms.home
+        && is_number_of(terms.number, number)
+        && !view.book.is_receiving_for(&terms.pnode, home, number)
     {
-        let part = forget(alloc, desk, talk, last, number)?;
-        Ok(part)
+        let reaction = forget(alloc, view, terms, last, number)?;
+        Ok(reaction)
     } else {
-        let part = close(alloc, desk, now, phase)?;
-        Ok(part)
+        let reaction = close(alloc, view, now, phase)?;
+        Ok(reaction)
     }
 }
 
 /// A frame comes where the next step is awaited. The journal is legal.
 pub fn row_ready<'a, T: Texts, S: Sessions>(
     alloc: Global,
-    desk: &Desk<T>,
+    view: &NodeView<T>,
     sessions: &S,
     now: Moment,
     sid: u64,
     phase: &Phase,
-    talk: &Talk,
+    terms: &SessionTerms,
     last: &Option<Key>,
     frame: &Frame<'_>,
-) -> Result<Part<'a>, NoMemory>
-    requires { is_legal T.read desk.now.book.now.entries ≡ true }
-    ensures { IfOk result (λ part. seen_part part ≡ row_ready (desk_of T.read desk.now.config.now desk.now.book.now.entries) (S.seen sessions.now) now sid phase.now talk.now last.now (message_of frame.now)) }
+) -> Result<Reaction<'a>, NoMemory>
+    requires { is_legal T.read view.now.book.now.entries ≡ true }
+    ensures { IfOk result (λ reaction. seen_reaction reaction ≡ row_ready (view_of T.read view.now.config.now view.now.book.now.entries) (S.seen sessions.now) now sid phase.now terms.now last.now (message_of frame.now)) }
 {
     match frame {
         Frame::StepCopyTo(key, name, disp, interval, length) => {
@@ -146,36 +146,36 @@ pub fn row_ready<'a, T: Texts, S: Sessions>(
                 interval: *interval,
                 length: *length,
             };
-            let part = copy_to(
-                alloc, desk, sessions, now, sid, phase, talk, last, key, &announced,
+            let reaction = copy_to(
+                alloc, view, sessions, now, sid, phase, terms, last, key, &announced,
             )?;
-            Ok(part)
+            Ok(reaction)
         }
         Frame::StepCopyFrom(key, name, interval) => {
-            let part = copy_from(
-                alloc, desk, sessions, now, sid, phase, talk, last, key, *name, *interval,
+            let reaction = copy_from(
+                alloc, view, sessions, now, sid, phase, terms, last, key, *name, *interval,
             )?;
-            Ok(part)
+            Ok(reaction)
         }
         Frame::Abort(key, why) => {
-            let part = abort(
-                alloc, desk, sessions, now, sid, phase, talk, last, key, *why,
+            let reaction = abort(
+                alloc, view, sessions, now, sid, phase, terms, last, key, *why,
             )?;
-            Ok(part)
+            Ok(reaction)
         }
         Frame::Forget(home, number) => {
-            let part = forget_it(
-                alloc, desk, sessions, now, sid, phase, talk, last, *home, *number,
+            let reaction = forget_it(
+                alloc, view, sessions, now, sid, phase, terms, last, *home, *number,
             )?;
-            Ok(part)
+            Ok(reaction)
         }
         Frame::Bye => {
-            let part = only_one(alloc, quietly(alloc, Phase::Gone))?;
-            Ok(part)
+            let reaction = only_one(alloc, quietly(alloc, Phase::Gone))?;
+            Ok(reaction)
         }
         _ => {
-            let part = close(alloc, desk, now, phase)?;
-            Ok(part)
+            let reaction = close(alloc, view, now, phase)?;
+            Ok(reaction)
         }
     }
 }

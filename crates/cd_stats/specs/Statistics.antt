@@ -6,8 +6,8 @@ use Rattle.cd_types.specs.declared.choices.Cause.{Cause}
 use Rattle.cd_types.specs.declared.key.Key.{Key}
 use Rattle.cd_entries.specs.declared.entry.Entry.{Entry}
 use Rattle.cd_entries.specs.declared.entry.Entry.TheVariants as entry
-use Rattle.cd_status.specs.Processes.{is_own}
-use Rattle.cd_legal.specs.Steps.{Reading, what_at}
+use Rattle.cd_rules.specs.Processes.{is_own}
+use Rattle.cd_rules.specs.Steps.{Reading, what_at}
 use Rattle.cd_stats.specs.Digits.{three, four, five}
 use Rattle.cd_stats.specs.Words.{cause_word, how_word, kind_word}
 

@@ -5,8 +5,8 @@ ghost use Rattle.cd_stats.specs.Words.{how_word};
 ghost use Rattle.cd_stats.specs.Statistics.{ending, submitted_line, step_line, closed_line, part_line, of_other, line_of};
 ghost use Rattle.cd_stats.specs.Seen.{seen_line};
 ghost use Rattle.cd_stats.specs.Words.{kind_word};
-ghost use Rattle.cd_legal.specs.Steps.{what_at};
-ghost use Rattle.cd_status.specs.Processes.{is_own};
+ghost use Rattle.cd_rules.specs.Steps.{what_at};
+ghost use Rattle.cd_rules.specs.Processes.{is_own};
 
 use crate::digits::{five, four, three};
 use crate::words::{cause_word, how_word, kind_word};

@@ -16,9 +16,9 @@ use Rattle.cd_entries.specs.declared.entry.Entry.TheVariants as entry
 use Rattle.cd_entries.specs.Entry.{entry_bytes, IsWritable}
 use Rattle.cd_ast.specs.Canonical.{canonical}
 use Rattle.cd_ast.specs.declared.process.Process.{Process}
-use Rattle.cd_filing.specs.Filing.{default_interval, is_push}
-use Rattle.cd_machine.specs.Ranges.{passes, within, is_timed, is_card}
-use Rattle.cd_reading.specs.Read.{canonical_reading}
+use Rattle.cd_submission.specs.Filing.{default_interval, is_push}
+use Rattle.cd_automaton.specs.Ranges.{passes, within, is_timed, is_card}
+use Rattle.cd_canonical.specs.Read.{canonical_reading}
 use Rattle.cd_types.specs.Choices.{hold_code, retain_code}
 use Rattle.cd_types.specs.declared.start.Card.{Card}
 use Rattle.cd_turn.specs.declared.order.Order.{Order}

@@ -19,13 +19,13 @@ use Rattle.cd_ast.specs.declared.process.Process.{Process}
 use Rattle.cd_ast.specs.declared.process.Stmt.{Stmt}
 use Rattle.cd_ast.specs.declared.process.What.{What}
 use Rattle.cd_ast.specs.declared.process.What.TheVariants as what
-use Rattle.cd_filing.specs.Filing.{default_interval, is_plain_card, replaces, says_interval as has_interval, is_push_step, is_one, is_push}
-use Rattle.cd_legal.specs.Legal.{is_empty, is_from, is_snode_of, is_card_of, is_given, says_interval, has_small_symbols, is_filed, is_new_origin, may_submit, is_first, allowed, is_legal}
-use Rattle.cd_legal.specs.Steps.{Reading}
-use Rattle.cd_status.specs.Keys.{same_key}
-use Rattle.cd_status.specs.KeysLaw.{same_key-true}
-use Rattle.cd_status.specs.Processes.{submitted, is_origin, made_for, live_numbers, latest}
-use Rattle.cd_reading.specs.Read.{canonical_reading}
+use Rattle.cd_submission.specs.Filing.{default_interval, is_plain_card, replaces, says_interval as has_interval, is_push_step, is_one, is_push}
+use Rattle.cd_rules.specs.Legal.{is_empty, is_from, is_snode_of, is_card_of, is_given, says_interval, has_small_symbols, is_filed, is_new_origin, may_submit, is_first, allowed, is_legal}
+use Rattle.cd_rules.specs.Steps.{Reading}
+use Rattle.cd_rules.specs.Keys.{same_key}
+use Rattle.cd_rules.proofs.KeysLaw.{same_key-true}
+use Rattle.cd_rules.specs.Processes.{submitted, is_origin, made_for, live_numbers, latest}
+use Rattle.cd_canonical.specs.Read.{canonical_reading}
 use Rattle.cd_turn.specs.Entries.{submitted_in, live_in, latest_in, origin_of, moment_of}
 use Rattle.cd_turn.specs.Legal.{IsNext, IsSubmission, FollowLegally, IsLegal}
 use Rattle.cd_turn.specs.Texts.{card_for, filed_card, push_card, card_in, without_start, IsText}

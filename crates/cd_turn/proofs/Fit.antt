@@ -7,7 +7,7 @@ use Rattle.cd_types.specs.Format.{IsBytes}
 use Rattle.cd_journal.specs.Bytes.{Listing, list_of}
 use Rattle.cd_entries.specs.declared.entry.Entry.{Entry}
 use Rattle.cd_entries.specs.Entry.{entry_bytes, entry_of, IsEntry}
-use Rattle.cd_entries.specs.EntryLaw.{entry_again, entry_only}
+use Rattle.cd_entries.proofs.EntryLaw.{entry_again, entry_only}
 use Rattle.cd_turn.specs.Home.{StandsFor, IsJournal, IsFit, place_behind, IsBad, IsFirstBad, IsUnfit}
 use Rattle.cd_turn.specs.Legal.{IsNext, FollowLegally, IsLegal}
 use Rattle.cd_turn.proofs.BodyBytes.{list_bytes}

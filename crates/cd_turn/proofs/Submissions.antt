@@ -15,12 +15,12 @@ use Rattle.cd_commands.specs.Grammar.{Place, Rest, one_word, two_words, param, s
 use Rattle.cd_commands.specs.Machine.{Said, Whole, Text}
 use Rattle.cd_grammar.specs.declared.token.Token.{Token}
 use Rattle.cd_grammar.specs.Faults.{Says}
-use Rattle.cd_filing.specs.Filing.{with_options, default_interval, filed, is_push}
-use Rattle.cd_machine.specs.Ranges.{is_card}
-use Rattle.cd_reading.specs.Read.{canonical_reading}
-use Rattle.cd_hearing.specs.Heard.{heard}
-use Rattle.cd_hearing.specs.declared.heard.Heard.{Heard}
-use Rattle.cd_hearing.specs.declared.heard.Heard.TheVariants as said
+use Rattle.cd_submission.specs.Filing.{with_options, default_interval, filed, is_push}
+use Rattle.cd_automaton.specs.Ranges.{is_card}
+use Rattle.cd_canonical.specs.Read.{canonical_reading}
+use Rattle.cd_commands.specs.Heard.{heard}
+use Rattle.cd_commands.specs.declared.heard.Heard.{Heard}
+use Rattle.cd_commands.specs.declared.heard.Heard.TheVariants as said
 use Rattle.cd_turn.specs.Order.{IsKept, WasSaid, IsSaid, WasHeard}
 
 -- no command of parameters alone is a Process text's

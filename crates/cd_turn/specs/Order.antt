@@ -7,20 +7,20 @@ use Rattle.cd_ast.specs.declared.process.Process.{Process}
 use Rattle.cd_commands.specs.declared.command.Command.{Command}
 use Rattle.cd_commands.specs.declared.command.Command.TheVariants as command
 use Rattle.cd_commands.specs.declared.command.Options.{Options}
-use Rattle.cd_filing.specs.Filing.{with_options, filed, default_interval, is_push}
+use Rattle.cd_submission.specs.Filing.{with_options, filed, default_interval, is_push}
 use Rattle.cd_grammar.specs.Faults.{Says}
-use Rattle.cd_hearing.specs.Heard.{heard}
-use Rattle.cd_hearing.specs.declared.heard.Heard.{Heard}
-use Rattle.cd_hearing.specs.declared.heard.Heard.TheVariants as said
+use Rattle.cd_commands.specs.Heard.{heard}
+use Rattle.cd_commands.specs.declared.heard.Heard.{Heard}
+use Rattle.cd_commands.specs.declared.heard.Heard.TheVariants as said
 use Rattle.cd_input.specs.Input.{Event, Whole, TooLong as RoomSpent, Unfinished as CutOff}
-use Rattle.cd_machine.specs.Ranges.{is_card}
+use Rattle.cd_automaton.specs.Ranges.{is_card}
 use Rattle.cd_outside.specs.Shelf.{FileMap}
-use Rattle.cd_reading.specs.Read.{canonical_reading}
-use Rattle.cd_shown.specs.Reading.{process_in}
-use Rattle.cd_shown.specs.declared.file.Shown.{Shown}
-use Rattle.cd_shown.specs.declared.file.Shown.TheVariants.{Missing, Failed, Long, Text, Report, NoScript}
-use Rattle.cd_shown.specs.declared.reading.Unread.{Unread}
-use Rattle.cd_shown.specs.declared.reading.Unread.TheVariants.{NoFile, FileFault, Wrong}
+use Rattle.cd_canonical.specs.Read.{canonical_reading}
+use Rattle.cd_submission.specs.Reading.{process_in}
+use Rattle.cd_submission.specs.declared.file.Shown.{Shown}
+use Rattle.cd_submission.specs.declared.file.Shown.TheVariants.{Missing, Failed, Long, Text, Report, NoScript}
+use Rattle.cd_submission.specs.declared.reading.Unread.{Unread}
+use Rattle.cd_submission.specs.declared.reading.Unread.TheVariants.{NoFile, FileFault, Wrong}
 use Rattle.cd_turn.specs.declared.order.Order.{Order}
 use Rattle.cd_turn.specs.declared.order.Order.TheVariants as order
 

@@ -4,8 +4,8 @@ use Rattle.std.specs.Option.{option_map}
 use Rattle.cd_types.specs.declared.card.Filed.{Filed}
 use Rattle.cd_types.specs.declared.start.Card.{Card}
 use Rattle.cd_ast.specs.declared.process.Process.{Process}
-use Rattle.cd_filing.specs.Filing.{default_interval, is_push}
-use Rattle.cd_reading.specs.Read.{canonical_reading}
+use Rattle.cd_submission.specs.Filing.{default_interval, is_push}
+use Rattle.cd_canonical.specs.Read.{canonical_reading}
 
 -- the card that is kept of a Process with this partner; it has no start of its own
 abbrev pub card_for : List ℕ → Card → Filed

@@ -2,9 +2,9 @@
 use Rattle.std.specs.Prelude.{◌≤◌, length, ℕ, ◌+◌, max, List, [], ◌∷◌, ◌++◌, nat_lt, if◌then◌else◌, Option, Some, None, option_to_list, Bool, true, false}
 use Rattle.cd_entries.specs.declared.entry.Entry.{Entry}
 use Rattle.cd_entries.specs.declared.entry.Entry.TheVariants as entry
-use Rattle.cd_shown.specs.declared.file.Shown.{Shown}
-use Rattle.cd_shown.specs.declared.reading.Unread.{Unread}
-use Rattle.cd_shown.specs.declared.reading.Unread.TheVariants as unread
+use Rattle.cd_submission.specs.declared.file.Shown.{Shown}
+use Rattle.cd_submission.specs.declared.reading.Unread.{Unread}
+use Rattle.cd_submission.specs.declared.reading.Unread.TheVariants as unread
 use Rattle.cd_turn.specs.declared.reply.Refusal.{Refusal}
 use Rattle.cd_turn.specs.declared.reply.Reply.{Reply}
 use Rattle.cd_turn.specs.declared.reply.Reply.TheVariants as reply

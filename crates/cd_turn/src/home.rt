@@ -16,11 +16,11 @@ ghost use Rattle.cd_turn.specs.Texts.{card_for, filed_card, push_card, card_in, 
 
 use cd_ast::Process;
 use cd_book::Texts;
+use cd_canonical::Canonical;
 use cd_entries::{Entry, EntryFault, read_entry, write_entry};
-use cd_filing::{DEFAULT_INTERVAL, is_push};
 use cd_journal::{Journal, JournalFault};
 use cd_outside::{Beat, Disk};
-use cd_reading::Canonical;
+use cd_submission::{DEFAULT_INTERVAL, is_push};
 use cd_types::{Card, Filed, Key, Moment, NoMemory, NodeName, ProcNo};
 use std::alloc::Global;
 use std::marker::Model;
@@ -330,11 +330,11 @@ impl Home {
     // Reads the entries of a journal that was opened on this disk.
     fn load<P: Disk>(&mut self, disk: &mut P) -> Result<(), JournalFault>
         requires none { self.old.entries ≡ [] }
-        requires opens { P.told → Opens self.old.journal (P.state disk.old) }
-        ensures home { P.told → OnOk result (IsHome self.new (P.state disk.new)) }
+        requires opens { P.observable → Opens self.old.journal (P.state disk.old) }
+        ensures home { P.observable → OnOk result (IsHome self.new (P.state disk.new)) }
         ensures legal { IsLegal self.new.entries }
-        ensures unfit { P.told → IfUnfit result (λ at. IsUnfit (P.state disk.old).seen at) }
-        ensures same { P.told → P.state disk.new ≡ P.state disk.old }
+        ensures unfit { P.observable → IfUnfit result (λ at. IsUnfit (P.state disk.old).seen at) }
+        ensures same { P.observable → P.state disk.new ≡ P.state disk.old }
         ensures sound { OnOk result (self.new.journal.sound ≡ self.old.journal.sound) }
         ensures cause { OnDisk result (Rose (P.faults disk.old) (P.faults disk.new)) }
         ensures full { IfFull result (λ _. ⊥) }
@@ -364,15 +364,15 @@ impl Home {
         at: u64,
     ) -> Result<(), JournalFault>
         requires below { i < length self.old.journal.places }
-        requires at { P.told → IsAt self.old.journal (P.state disk.old) }
+        requires at { P.observable → IsAt self.old.journal (P.state disk.old) }
         requires legal { IsLegal self.old.entries }
-        ensures body { P.told → OnOk result (IfOk (list_of (P.state disk.old).seen) (λ bodies. slice_get bodies i ≡ Some body.new.items)) }
+        ensures body { P.observable → OnOk result (IfOk (list_of (P.state disk.old).seen) (λ bodies. slice_get bodies i ≡ Some body.new.items)) }
         ensures entries { OnOk result (map entry_bytes self.new.entries ≡ map entry_bytes self.old.entries ++ body.new.items ∷ []) }
         ensures legal { IsLegal self.new.entries }
-        ensures unfit { P.told → IfUnfit result (λ place. (place ≡ at) × IfOk (list_of (P.state disk.old).seen) (λ bodies. HasBad self.old.entries bodies i)) }
+        ensures unfit { P.observable → IfUnfit result (λ place. (place ≡ at) × IfOk (list_of (P.state disk.old).seen) (λ bodies. HasBad self.old.entries bodies i)) }
         ensures kept { KeepsList self.old.journal self.new.journal }
         ensures sound { OnOk result (self.new.journal.sound ≡ self.old.journal.sound) }
-        ensures same { P.told → P.state disk.new ≡ P.state disk.old }
+        ensures same { P.observable → P.state disk.new ≡ P.state disk.old }
         ensures cause { OnDisk result (Rose (P.faults disk.old) (P.faults disk.new)) }
         ensures full { IfFull result (λ _. ⊥) }
         ensures later { P.faults disk.old ≤ P.faults disk.new }
@@ -386,16 +386,16 @@ impl Home {
     /// Opens the home of this disk: syncs, reads the journal's entries, and sees that each may follow those before it.
     /// `Unfit` tells the first place that isn't as it has to be, exactly where there is one.
     pub fn open<P: Disk>(alloc: Global, disk: &mut P, beat: &mut Beat) -> Result<Self, JournalFault>
-        requires { P.told → last_of (P.state disk.old).calls ≤ beat.old }
-        ensures home { P.told → IfOk result (λ home. IsHome home (P.state disk.new)) }
+        requires { P.observable → last_of (P.state disk.old).calls ≤ beat.old }
+        ensures home { P.observable → IfOk result (λ home. IsHome home (P.state disk.new)) }
         ensures legal { IfOk result (λ home. IsLegal home.entries) }
         ensures sound { IfOk result (λ home. home.journal.sound ≡ true) }
-        ensures unfit { P.told → IfUnfit result (λ at. IsUnfit (P.state disk.old).seen at) }
-        ensures same { P.told → (P.state disk.new).seen ≡ (P.state disk.old).seen }
-        ensures moments { P.told → Moments (LeftAt (P.state disk.old)) (LeftAt (P.state disk.new)) beat.old (IsImage (P.state disk.old).doubt) }
+        ensures unfit { P.observable → IfUnfit result (λ at. IsUnfit (P.state disk.old).seen at) }
+        ensures same { P.observable → (P.state disk.new).seen ≡ (P.state disk.old).seen }
+        ensures moments { P.observable → Moments (LeftAt (P.state disk.old)) (LeftAt (P.state disk.new)) beat.old (IsImage (P.state disk.old).doubt) }
         ensures cause { OnDisk result (Rose (P.faults disk.old) (P.faults disk.new)) }
         ensures full { IfFull result (λ _. ⊥) }
-        ensures order { P.told → last_of (P.state disk.new).calls ≤ beat.new }
+        ensures order { P.observable → last_of (P.state disk.new).calls ≤ beat.new }
         ensures beat { beat.old ≤ beat.new }
         ensures later { P.faults disk.old ≤ P.faults disk.new }
     {
@@ -437,16 +437,16 @@ impl Home {
         requires legal { IsLegal self.old.entries }
         requires header { self.old.journal.has_header ≡ true }
         requires sound { self.old.journal.sound ≡ true }
-        requires home { P.told → IsHome self.old (P.state disk.old) }
-        requires order { P.told → last_of (P.state disk.old).calls ≤ beat.old }
+        requires home { P.observable → IsHome self.old (P.state disk.old) }
+        requires order { P.observable → last_of (P.state disk.old).calls ≤ beat.old }
 
-        ensures home { P.told → OnOk result (IsHome self.new (P.state disk.new)) }
+        ensures home { P.observable → OnOk result (IsHome self.new (P.state disk.new)) }
         ensures kept { OnOk result (self.new.entries ≡ self.old.entries ++ entry ∷ []) }
         ensures err { OnErr result (self.new.entries ≡ self.old.entries) }
         ensures header { self.new.journal.has_header ≡ true }
         ensures sound { OnOk result (self.new.journal.sound ≡ true) }
 
-        ensures moments { P.told → Moments (LeftAt (P.state disk.old)) (LeftAt (P.state disk.new)) beat.old
+        ensures moments { P.observable → Moments (LeftAt (P.state disk.old)) (LeftAt (P.state disk.new)) beat.old
             (λ image. StandsFor image self.old.entries ⊎ StandsFor image (self.old.entries ++ entry ∷ [])) }
 
         ensures form { IsEntry entry }
@@ -457,7 +457,7 @@ impl Home {
         ensures memory_first { OnNoMemory result ((disk.new ≡ disk.old) × (beat.new ≡ beat.old)) }
         ensures cause { OnDisk result (Rose (P.faults disk.old) (P.faults disk.new)) }
         ensures unfit { IfUnfit result (λ _. ⊥) }
-        ensures order { P.told → last_of (P.state disk.new).calls ≤ beat.new }
+        ensures order { P.observable → last_of (P.state disk.new).calls ≤ beat.new }
         ensures beat { beat.old ≤ beat.new }
         ensures later { P.faults disk.old ≤ P.faults disk.new }
     {
@@ -492,17 +492,17 @@ impl Home {
     /// Makes the journal of a disk without bytes. A stop within may leave any bytes, up to nine.
     pub fn make<P: Disk>(&mut self, disk: &mut P, beat: &mut Beat) -> Result<(), JournalFault>
         requires header { self.old.journal.has_header ≡ false }
-        requires home { P.told → IsHome self.old (P.state disk.old) }
-        requires order { P.told → last_of (P.state disk.old).calls ≤ beat.old }
-        ensures home { P.told → OnOk result (IsHome self.new (P.state disk.new)) }
+        requires home { P.observable → IsHome self.old (P.state disk.old) }
+        requires order { P.observable → last_of (P.state disk.old).calls ≤ beat.old }
+        ensures home { P.observable → OnOk result (IsHome self.new (P.state disk.new)) }
         ensures entries { self.new.entries ≡ self.old.entries }
         ensures sound { OnOk result (self.new.journal.sound ≡ true) }
-        ensures made { P.told → OnOk result (self.new.journal.has_header ≡ true) }
-        ensures moments { P.told → Moments (LeftAt (P.state disk.old)) (LeftAt (P.state disk.new)) beat.old (λ image. length image ≤ 9) }
-        ensures unfit { P.told → IfUnfit result (λ _. ⊥) }
+        ensures made { P.observable → OnOk result (self.new.journal.has_header ≡ true) }
+        ensures moments { P.observable → Moments (LeftAt (P.state disk.old)) (LeftAt (P.state disk.new)) beat.old (λ image. length image ≤ 9) }
+        ensures unfit { P.observable → IfUnfit result (λ _. ⊥) }
         ensures cause { OnDisk result (Rose (P.faults disk.old) (P.faults disk.new)) }
         ensures full { IfFull result (λ _. ⊥) }
-        ensures order { P.told → last_of (P.state disk.new).calls ≤ beat.new }
+        ensures order { P.observable → last_of (P.state disk.new).calls ≤ beat.new }
         ensures beat { beat.old ≤ beat.new }
         ensures later { P.faults disk.old ≤ P.faults disk.new }
     {

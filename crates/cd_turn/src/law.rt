@@ -4,11 +4,11 @@ ghost use Rattle.cd_types.specs.Format.{IsBytes};
 ghost use Rattle.cd_entries.specs.declared.entry.Entry.{Entry};
 ghost use Rattle.cd_turn.specs.Home.{StandsFor, IsJournal, IsFit, IsUnfit};
 ghost use Rattle.cd_turn.specs.Legal.{IsLegal};
-ghost use Rattle.cd_legal.specs.Legal.{is_legal};
-ghost use Rattle.cd_reading.specs.Read.{canonical_reading};
+ghost use Rattle.cd_rules.specs.Legal.{is_legal};
+ghost use Rattle.cd_canonical.specs.Read.{canonical_reading};
 
-use cd_machine::law_of_ranges;
-use cd_reading::law_of_readings;
+use cd_automaton::law_of_ranges;
+use cd_canonical::law_of_readings;
 
 /// Bytes are a journal of a legal list or have a first wrong place, and not both. The list is one, and so is the place. No
 /// bytes are a journal, and so is what a crash may leave of one.

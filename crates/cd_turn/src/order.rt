@@ -2,22 +2,22 @@
 ghost use Rattle.std.specs.Prelude.{◌≡◌, ◌≤◌, ℕ, List, IfOk, IfSome};
 ghost use Rattle.cd_commands.specs.declared.command.Command.TheVariants as command;
 ghost use Rattle.cd_grammar.specs.Faults.{Says};
-ghost use Rattle.cd_hearing.specs.Heard.{heard};
+ghost use Rattle.cd_commands.specs.Heard.{heard};
 ghost use Rattle.cd_input.specs.Scanner.{event_of};
 ghost use Rattle.cd_outside.specs.Counts.{Rose};
-ghost use Rattle.cd_shown.specs.Reading.{process_in};
-ghost use Rattle.cd_shown.specs.Shown.{IsShown};
+ghost use Rattle.cd_submission.specs.Reading.{process_in};
+ghost use Rattle.cd_submission.specs.Shown.{IsShown};
 ghost use Rattle.cd_turn.specs.Order.{are_built, kept_with, submitting, submitted, submitted_from, viewed, drilled, order_for, order_of, file_for, file_of, heard_in, asked_of, IsKept, IsFormed, IsSaid, WasSaid, WasHeard, WasRead};
 
 use cd_ast::{FaultName, Process};
-use cd_commands::{Command, Options};
-use cd_filing::{filled, is_push, law_of_filings, with_options};
-use cd_hearing::{Heard, hear, law_of_hearing};
+use cd_automaton::law_of_ranges;
+use cd_canonical::law_of_readings;
+use cd_commands::{Command, Heard, Options, hear, law_of_hearing};
 use cd_input::Found;
-use cd_machine::law_of_ranges;
 use cd_outside::Files;
-use cd_reading::law_of_readings;
-use cd_shown::{Shown, Unread, look, process_in};
+use cd_submission::{
+    Shown, Unread, filled, is_push, law_of_filings, look, process_in, with_options,
+};
 use cd_types::{Bytes, NoMemory, NodeName, Symbols};
 use std::alloc::Global;
 
@@ -252,9 +252,9 @@ fn show_command<F: Files>(
     command: &Command,
     files: &mut F,
 ) -> Result<Shown, NoMemory>
-    ensures shown { F.told → IfOk result (λ shown. IsShown (asked_of (F.state files.old).shelf.seen (file_for command.now)) shown) }
+    ensures shown { F.observable → IfOk result (λ shown. IsShown (asked_of (F.state files.old).shelf.seen (file_for command.now)) shown) }
     ensures failed { IfOk result (λ shown. shown ≡ Shown.Failed → Rose (F.faults files.old) (F.faults files.new)) }
-    ensures same { F.told → F.state files.new ≡ F.state files.old }
+    ensures same { F.observable → F.state files.new ≡ F.state files.old }
     ensures later { F.faults files.old ≤ F.faults files.new }
 {
     match command {
@@ -275,9 +275,9 @@ fn show_command<F: Files>(
 /// What the files show of the file in which the Process stands for which it asks; where it asks for none, it is as if there were
 /// none. The files are changed in nothing, and have failed only where their count rose.
 pub fn show_for<F: Files>(alloc: Global, said: &Heard, files: &mut F) -> Result<Shown, NoMemory>
-    ensures shown { F.told → IfOk result (λ shown. IsShown (asked_of (F.state files.old).shelf.seen (file_of said.now)) shown) }
+    ensures shown { F.observable → IfOk result (λ shown. IsShown (asked_of (F.state files.old).shelf.seen (file_of said.now)) shown) }
     ensures failed { IfOk result (λ shown. shown ≡ Shown.Failed → Rose (F.faults files.old) (F.faults files.new)) }
-    ensures same { F.told → F.state files.new ≡ F.state files.old }
+    ensures same { F.observable → F.state files.new ≡ F.state files.old }
     ensures later { F.faults files.old ≤ F.faults files.new }
 {
     match said {

@@ -23,7 +23,7 @@ use cd_ast::{Process, print};
 use cd_entries::Entry;
 use cd_journal::JournalFault;
 use cd_outside::{Beat, Disk, Sink};
-use cd_shown::Unread;
+use cd_submission::Unread;
 use cd_types::{Bytes, Moment, NoMemory, NodeName, ProcNo};
 use std::alloc::Global;
 
@@ -217,21 +217,21 @@ fn kept<P: Disk>(
     requires short { length (entry_bytes entry) ≤ 262144 }
     requires legal { IsLegal home.old.entries }
     requires sound { home.old.journal.sound ≡ true }
-    requires home { P.told → IsHome home.old (P.state journal.old) }
-    requires order { P.told → last_of (P.state journal.old).calls ≤ beat.old }
-    ensures home { P.told → OnOk result (IsHome home.new (P.state journal.new)) }
+    requires home { P.observable → IsHome home.old (P.state journal.old) }
+    requires order { P.observable → last_of (P.state journal.old).calls ≤ beat.old }
+    ensures home { P.observable → OnOk result (IsHome home.new (P.state journal.new)) }
     ensures kept { OnOk result (home.new.entries ≡ home.old.entries ++ entry ∷ []) }
     ensures form { OnOk result (IsEntry entry) }
     ensures sound { OnOk result (home.new.journal.sound ≡ true) }
-    ensures moments { P.told → Moments (LeftAt (P.state journal.old)) (LeftAt (P.state journal.new)) beat.old
+    ensures moments { P.observable → Moments (LeftAt (P.state journal.old)) (LeftAt (P.state journal.new)) beat.old
         (MayLeave ((P.state journal.old).seen ≡ []) home.old.entries (Some entry)) }
     ensures full { IfFull result (λ len. 2 ^ 30 < len + 5 + length (entry_bytes entry)) }
-    ensures full_len { P.told → IfFull result (λ len. len ≡ journal_length home.old.entries) }
-    ensures fits { P.told → OnOk result (FitsBehind home.old.entries (Some entry)) }
-    ensures fits_too { P.told → OnDisk result (FitsBehind home.old.entries (Some entry)) }
-    ensures unfit { P.told → IfUnfit result (λ _. ⊥) }
+    ensures full_len { P.observable → IfFull result (λ len. len ≡ journal_length home.old.entries) }
+    ensures fits { P.observable → OnOk result (FitsBehind home.old.entries (Some entry)) }
+    ensures fits_too { P.observable → OnDisk result (FitsBehind home.old.entries (Some entry)) }
+    ensures unfit { P.observable → IfUnfit result (λ _. ⊥) }
     ensures cause { OnDisk result (Rose (P.faults journal.old) (P.faults journal.new)) }
-    ensures order { P.told → last_of (P.state journal.new).calls ≤ beat.new }
+    ensures order { P.observable → last_of (P.state journal.new).calls ≤ beat.new }
     ensures beat { beat.old ≤ beat.new }
     ensures later { P.faults journal.old ≤ P.faults journal.new }
 {
@@ -259,18 +259,18 @@ fn keep_entry<P: Disk>(
     requires may { MayKeep home.old.entries entry }
     requires legal { IsLegal home.old.entries }
     requires sound { home.old.journal.sound ≡ true }
-    requires home { P.told → IsHome home.old (P.state journal.old) }
-    requires order { P.told → last_of (P.state journal.old).calls ≤ beat.old }
-    ensures home { P.told → OnOk result (IsHome home.new (P.state journal.new)) }
+    requires home { P.observable → IsHome home.old (P.state journal.old) }
+    requires order { P.observable → last_of (P.state journal.old).calls ≤ beat.old }
+    ensures home { P.observable → OnOk result (IsHome home.new (P.state journal.new)) }
     ensures kept { OnOk result (home.new.entries ≡ home.old.entries ++ entry ∷ []) }
     ensures legal { OnOk result (IsLegal home.new.entries) }
     ensures sound { OnOk result (home.new.journal.sound ≡ true) }
-    ensures moments { P.told → Moments (LeftAt (P.state journal.old)) (LeftAt (P.state journal.new)) beat.old
+    ensures moments { P.observable → Moments (LeftAt (P.state journal.old)) (LeftAt (P.state journal.new)) beat.old
         (MayLeave ((P.state journal.old).seen ≡ []) home.old.entries (Some entry)) }
-    ensures fresh { P.told → OnOk result ((P.state journal.new).seen ≡ [] → ⊥) }
-    ensures reason { IfErr result (HasReason P.told (Rose (P.faults journal.old) (P.faults journal.new)) ⊥ home.old.entries (Some entry)) }
-    ensures fits { P.told → OnOk result (FitsBehind home.old.entries (Some entry)) }
-    ensures order { P.told → last_of (P.state journal.new).calls ≤ beat.new }
+    ensures fresh { P.observable → OnOk result ((P.state journal.new).seen ≡ [] → ⊥) }
+    ensures reason { IfErr result (HasReason P.observable (Rose (P.faults journal.old) (P.faults journal.new)) ⊥ home.old.entries (Some entry)) }
+    ensures fits { P.observable → OnOk result (FitsBehind home.old.entries (Some entry)) }
+    ensures order { P.observable → last_of (P.state journal.new).calls ≤ beat.new }
     ensures beat { beat.old ≤ beat.new }
     ensures later { P.faults journal.old ≤ P.faults journal.new }
 {
@@ -296,18 +296,18 @@ fn keep_added<P: Disk>(
     requires formed { IsFormed wanted.now }
     requires legal { IsLegal home.old.entries }
     requires sound { home.old.journal.sound ≡ true }
-    requires home { P.told → IsHome home.old (P.state journal.old) }
-    requires order { P.told → last_of (P.state journal.old).calls ≤ beat.old }
-    ensures home { P.told → OnOk result (IsHome home.new (P.state journal.new)) }
+    requires home { P.observable → IsHome home.old (P.state journal.old) }
+    requires order { P.observable → last_of (P.state journal.old).calls ≤ beat.old }
+    ensures home { P.observable → OnOk result (IsHome home.new (P.state journal.new)) }
     ensures kept { OnOk result (home.new.entries ≡ home.old.entries ++ option_to_list (added home.old.entries now wanted.now)) }
     ensures legal { OnOk result (IsLegal home.new.entries) }
     ensures sound { OnOk result (home.new.journal.sound ≡ true) }
-    ensures moments { P.told → Moments (LeftAt (P.state journal.old)) (LeftAt (P.state journal.new)) beat.old
+    ensures moments { P.observable → Moments (LeftAt (P.state journal.old)) (LeftAt (P.state journal.new)) beat.old
         (MayLeave ((P.state journal.old).seen ≡ []) home.old.entries (added home.old.entries now wanted.now)) }
-    ensures fresh { P.told → OnOk result ((P.state journal.new).seen ≡ [] → (P.state journal.old).seen ≡ []) }
-    ensures reason { IfErr result (HasReason P.told (Rose (P.faults journal.old) (P.faults journal.new)) ⊥ home.old.entries (added home.old.entries now wanted.now)) }
-    ensures fits { P.told → OnOk result (FitsBehind home.old.entries (added home.old.entries now wanted.now)) }
-    ensures order { P.told → last_of (P.state journal.new).calls ≤ beat.new }
+    ensures fresh { P.observable → OnOk result ((P.state journal.new).seen ≡ [] → (P.state journal.old).seen ≡ []) }
+    ensures reason { IfErr result (HasReason P.observable (Rose (P.faults journal.old) (P.faults journal.new)) ⊥ home.old.entries (added home.old.entries now wanted.now)) }
+    ensures fits { P.observable → OnOk result (FitsBehind home.old.entries (added home.old.entries now wanted.now)) }
+    ensures order { P.observable → last_of (P.state journal.new).calls ≤ beat.new }
     ensures beat { beat.old ≤ beat.new }
     ensures later { P.faults journal.old ≤ P.faults journal.new }
 {
@@ -321,8 +321,8 @@ fn keep_added<P: Disk>(
 // Writes the line of a reply.
 fn tell<O: Sink>(reply: Reply, text: &[u8], out: &mut O) -> Result<Reply, Status>
     ensures reply { IfOk result (λ told. told ≡ reply) }
-    ensures out { O.told → OnOk result (O.taken out.new ≡ O.taken out.old ++ text.now) }
-    ensures front { O.told → OnErr result (TookFront (O.taken out.old) text.now (O.taken out.new)) }
+    ensures out { O.observable → OnOk result (O.taken out.new ≡ O.taken out.old ++ text.now) }
+    ensures front { O.observable → OnErr result (TookFront (O.taken out.old) text.now (O.taken out.new)) }
     ensures fault { IfErr result (λ status. (status ≡ Status.SinkFault) × Rose (O.faults out.old) (O.faults out.new)) }
     ensures later { O.faults out.old ≤ O.faults out.new }
 {
@@ -348,23 +348,23 @@ pub fn make_turn<P: Disk, O: Sink>(
     requires formed { IsFormed wanted.now }
     requires legal { IsLegal home.old.entries }
     requires sound { home.old.journal.sound ≡ true }
-    requires home { P.told → IsHome home.old (P.state journal.old) }
-    requires order { P.told → last_of (P.state journal.old).calls ≤ beat.old }
+    requires home { P.observable → IsHome home.old (P.state journal.old) }
+    requires order { P.observable → last_of (P.state journal.old).calls ≤ beat.old }
     ensures reply { IfOk result (λ reply. reply ≡ answer home.old.entries wanted.now) }
-    ensures out { O.told → IfOk result (λ reply. O.taken out.new ≡ O.taken out.old ++ reply_text reply) }
-    ensures took { O.told → IfErr result (λ status. TookAtEnd status (reply_text (answer home.old.entries wanted.now)) (O.taken out.old) (O.taken out.new)) }
+    ensures out { O.observable → IfOk result (λ reply. O.taken out.new ≡ O.taken out.old ++ reply_text reply) }
+    ensures took { O.observable → IfErr result (λ status. TookAtEnd status (reply_text (answer home.old.entries wanted.now)) (O.taken out.old) (O.taken out.new)) }
     // Where the output failed, what the order adds was on the disk before.
-    ensures written { P.told → IfErr result (λ status. status ≡ Status.SinkFault → HasKept (home.old.entries ++ option_to_list (added home.old.entries now wanted.now)) (P.state journal.new)) }
-    ensures home { P.told → OnOk result (IsHome home.new (P.state journal.new)) }
+    ensures written { P.observable → IfErr result (λ status. status ≡ Status.SinkFault → HasKept (home.old.entries ++ option_to_list (added home.old.entries now wanted.now)) (P.state journal.new)) }
+    ensures home { P.observable → OnOk result (IsHome home.new (P.state journal.new)) }
     ensures kept { OnOk result (home.new.entries ≡ home.old.entries ++ option_to_list (added home.old.entries now wanted.now)) }
     ensures legal { OnOk result (IsLegal home.new.entries) }
     ensures sound { OnOk result (home.new.journal.sound ≡ true) }
-    ensures moments { P.told → Moments (LeftAt (P.state journal.old)) (LeftAt (P.state journal.new)) beat.old
+    ensures moments { P.observable → Moments (LeftAt (P.state journal.old)) (LeftAt (P.state journal.new)) beat.old
         (MayLeave ((P.state journal.old).seen ≡ []) home.old.entries (added home.old.entries now wanted.now)) }
-    ensures fresh { P.told → OnOk result ((P.state journal.new).seen ≡ [] → (P.state journal.old).seen ≡ []) }
-    ensures reason { IfErr result (HasReason P.told (Rose (P.faults journal.old) (P.faults journal.new)) (Rose (O.faults out.old) (O.faults out.new)) home.old.entries (added home.old.entries now wanted.now)) }
-    ensures fits { P.told → OnOk result (FitsBehind home.old.entries (added home.old.entries now wanted.now)) }
-    ensures order { P.told → last_of (P.state journal.new).calls ≤ beat.new }
+    ensures fresh { P.observable → OnOk result ((P.state journal.new).seen ≡ [] → (P.state journal.old).seen ≡ []) }
+    ensures reason { IfErr result (HasReason P.observable (Rose (P.faults journal.old) (P.faults journal.new)) (Rose (O.faults out.old) (O.faults out.new)) home.old.entries (added home.old.entries now wanted.now)) }
+    ensures fits { P.observable → OnOk result (FitsBehind home.old.entries (added home.old.entries now wanted.now)) }
+    ensures order { P.observable → last_of (P.state journal.new).calls ≤ beat.new }
     ensures beat { beat.old ≤ beat.new }
     ensures later { P.faults journal.old ≤ P.faults journal.new }
     ensures later_out { O.faults out.old ≤ O.faults out.new }

@@ -1,0 +1,13 @@
+pub mod AgreedLaw
+pub mod EffectsLaw
+pub mod FilesLaw
+pub mod FrontsLaw
+pub mod GrownLaw
+pub mod GuardsLaw
+pub mod KeptLaw
+pub mod LeftLaw
+pub mod PiecesLaw
+pub mod SourcesLaw
+pub mod StandsLaw
+pub mod StatedLaw
+pub mod WholeLaw

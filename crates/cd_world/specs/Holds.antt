@@ -12,22 +12,22 @@ use Rattle.cd_entries.specs.declared.entry.Entry.{Entry}
 use Rattle.cd_entries.specs.declared.entry.Entry.TheVariants as entry
 use Rattle.cd_ast.specs.declared.process.CopyStep.{CopyStep}
 use Rattle.cd_ast.specs.declared.process.What.TheVariants as what
-use Rattle.cd_status.specs.Keys.{same_key}
-use Rattle.cd_status.specs.Openings.{open_on}
-use Rattle.cd_status.specs.Processes.{own_home}
-use Rattle.cd_status.specs.Status.{outcome, mark}
-use Rattle.cd_legal.specs.Legal.{is_legal}
-use Rattle.cd_legal.specs.Steps.{Reading, what_at, is_such, pnode_keeps}
-use Rattle.cd_moves.specs.Sending.{interval_of}
+use Rattle.cd_rules.specs.Keys.{same_key}
+use Rattle.cd_rules.specs.Openings.{open_on}
+use Rattle.cd_rules.specs.Processes.{own_home}
+use Rattle.cd_rules.specs.Status.{outcome, mark}
+use Rattle.cd_rules.specs.Legal.{is_legal}
+use Rattle.cd_rules.specs.Steps.{Reading, what_at, is_such, pnode_keeps}
+use Rattle.cd_protocol.specs.Sending.{interval_of}
 use Rattle.cd_world.specs.World.{At, A, B, across, Note, Sized, Read, Began, Landed, Dropped, Wrote, Half, World, Unless}
 
 -- Journals.
 
 abbrev pub journal_of : Half → List Entry
-journal_of half = half.node.desk.journal
+journal_of half = half.node.view.journal
 
 abbrev pub HasLegal : Half → Type 0
-HasLegal half = is_legal half.node.desk.config.read (journal_of half) ≡ true
+HasLegal half = is_legal half.node.view.config.read (journal_of half) ≡ true
 
 -- both journals are legal
 pub record AreLegal (w : World) : Type 0 where
@@ -71,8 +71,8 @@ EndsAsKept read other journal n place rc why bytes =
     (key : Key) → IsOwnStep journal n place key → is_such pnode_keeps (what_at read journal n place) ≡ false → IsOutcome other key rc why bytes
 
 pub record HaveResults (w : World) : Type 0 where
-  pub a : EachEnded (EndsAsKept w.a.node.desk.config.read (journal_of w.b)) (journal_of w.a)
-  pub b : EachEnded (EndsAsKept w.b.node.desk.config.read (journal_of w.a)) (journal_of w.b)
+  pub a : EachEnded (EndsAsKept w.a.node.view.config.read (journal_of w.b)) (journal_of w.a)
+  pub b : EachEnded (EndsAsKept w.b.node.view.config.read (journal_of w.a)) (journal_of w.b)
 
 -- Statements.
 
@@ -96,8 +96,8 @@ IsStepOf journal key = own_home journal ≡ Some (key.pnode, key.home)
 -- what a node receives is for a Process of its own, and as a pull of it, or for one of the other node, and as a push of it
 abbrev pub AsStated : Half → Half → Receiving → Type 0
 AsStated here there r =
-    (IsStepOf (journal_of here) r.key × IsStated here.node.desk.config.read (journal_of here) false r)
-    ⊎ (IsStepOf (journal_of there) r.key × IsStated there.node.desk.config.read (journal_of there) true r)
+    (IsStepOf (journal_of here) r.key × IsStated here.node.view.config.read (journal_of here) false r)
+    ⊎ (IsStepOf (journal_of there) r.key × IsStated there.node.view.config.read (journal_of there) true r)
 
 -- each Receiving of a journal
 abbrev pub EachReceiving : (Receiving → Type 0) → List Entry → Type 0
@@ -140,8 +140,8 @@ LandsOnce x read notes journal n place rc why bytes =
     (key : Key) (step : CopyStep) → IsOwnStep journal n place key → what_at read journal n place ≡ Some (what.Copy step) → rc ≡ 0 → IsOne (landings (keeper x step) key notes)
 
 pub record HaveLanded (w : World) : Type 0 where
-  pub a : EachEnded (LandsOnce A w.a.node.desk.config.read w.notes) (journal_of w.a)
-  pub b : EachEnded (LandsOnce B w.b.node.desk.config.read w.notes) (journal_of w.b)
+  pub a : EachEnded (LandsOnce A w.a.node.view.config.read w.notes) (journal_of w.a)
+  pub b : EachEnded (LandsOnce B w.b.node.view.config.read w.notes) (journal_of w.b)
 
 -- the landings of a step at a node as they were noted, the newest first
 abbrev pub noted_landings : At → Key → List Note → List Note
@@ -167,8 +167,8 @@ LandsAsStated x read notes journal n place rc why bytes =
     (key : Key) (step : CopyStep) → IsOwnStep journal n place key → what_at read journal n place ≡ Some (what.Copy step) → rc ≡ 0 → IsOneAs (keeper x step) step (noted_landings (keeper x step) key notes)
 
 pub record HaveCopied (w : World) : Type 0 where
-  pub a : EachEnded (LandsAsStated A w.a.node.desk.config.read w.notes) (journal_of w.a)
-  pub b : EachEnded (LandsAsStated B w.b.node.desk.config.read w.notes) (journal_of w.b)
+  pub a : EachEnded (LandsAsStated A w.a.node.view.config.read w.notes) (journal_of w.a)
+  pub b : EachEnded (LandsAsStated B w.b.node.view.config.read w.notes) (journal_of w.b)
 
 -- Sources.
 
@@ -203,14 +203,14 @@ abbrev pub Begins : List ℕ → Option (List ℕ) → Type 0
 Begins front file = take (length front) (content_of file) ≡ front
 
 -- what is safe of a file while it is received: of the old file what stays, and of what came all that is marked
-abbrev pub safe_part : Half → Receiving → List ℕ
-safe_part half r = take r.base (content_of (half.settled r.name)) ++ take (mark (journal_of half) r.key) (half.received r.key)
+abbrev pub safe_reaction : Half → Receiving → List ℕ
+safe_reaction half r = take r.base (content_of (half.settled r.name)) ++ take (mark (journal_of half) r.key) (half.received r.key)
 
 -- A file is the settled one where nothing is received onto it. Else it begins with what is safe, which has all the bytes that
 -- stay and all that are marked.
 abbrev pub IsAsSettled : Half → List ℕ → Option Receiving → Option (List ℕ) → Type 0
 IsAsSettled half name None file = file ≡ half.settled name
-IsAsSettled half name (Some r) file = Begins (safe_part half r) file × (length (safe_part half r) ≡ r.base + mark (journal_of half) r.key)
+IsAsSettled half name (Some r) file = Begins (safe_reaction half r) file × (length (safe_reaction half r) ≡ r.base + mark (journal_of half) r.key)
 
 -- what a name gives, and whatever a crash may leave of it
 pub record Stands (half : Half) (name : List ℕ) : Type 0 where

@@ -1,17 +1,4 @@
-pub mod AgreedLaw
-pub mod DeedsLaw
-pub mod FilesLaw
 pub mod Fronts
-pub mod FrontsLaw
-pub mod GrownLaw
-pub mod GuardsLaw
 pub mod Holds
-pub mod KeptLaw
-pub mod LeftLaw
-pub mod PiecesLaw
-pub mod SourcesLaw
-pub mod StandsLaw
-pub mod StatedLaw
-pub mod WholeLaw
 pub mod Worked
 pub mod World

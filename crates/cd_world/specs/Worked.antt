@@ -9,8 +9,8 @@ use Rattle.cd_types.specs.declared.choices.Retain.TheVariants as retain
 use Rattle.cd_types.specs.declared.rows.Receiving.{Receiving}
 use Rattle.cd_entries.specs.declared.entry.Entry.TheVariants as entry
 use Rattle.cd_outside.specs.Shelf.{settled_shelf}
-use Rattle.cd_moves.specs.Node.{Node, Answers}
-use Rattle.cd_moves.specs.Worked.{worked_key, node_a, node_b}
+use Rattle.cd_protocol.specs.Node.{Node, Answers}
+use Rattle.cd_protocol.specs.Worked.{worked_key, node_a, node_b}
 use Rattle.cd_world.specs.World.{A, B, Half, World, Event, Does, Loses, Later, Submits, Choice, Call, Frame, End, no_sessions}
 
 abbrev pub bytes : List ℕ
@@ -22,7 +22,7 @@ card = record { name = codes "P1"; snode = codes "BETA"; prty = 10; class = 1; h
 
 abbrev half_of : Node → List ℕ → ℕ → (List ℕ → Option (List ℕ)) → Half
 half_of node name home files = record {
-  node = record { desk = record node.desk { journal = entry.Home name home ∷ [] }; shelf = settled_shelf files; sessions = no_sessions };
+  node = record { view = record node.view { journal = entry.Home name home ∷ [] }; shelf = settled_shelf files; sessions = no_sessions };
   up = true;
   settled = files;
   spoiled = [];

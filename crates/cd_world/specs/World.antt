@@ -11,22 +11,22 @@ use Rattle.cd_entries.specs.declared.entry.Entry.{Entry}
 use Rattle.cd_entries.specs.declared.entry.Entry.TheVariants as entry
 use Rattle.cd_frames.specs.Message as message
 use Rattle.cd_frames.specs.Message.{Message}
-use Rattle.cd_status.specs.Keys.{same_key}
-use Rattle.cd_status.specs.Openings.{open_on}
-use Rattle.cd_status.specs.Processes.{submitted}
-use Rattle.cd_status.specs.Status as status
-use Rattle.cd_status.specs.Status.{Status, mark}
-use Rattle.cd_legal.specs.Legal.{allowed}
-use Rattle.cd_legal.specs.Promises.{HavePriorities}
-use Rattle.cd_legal.specs.Steps.{what_at}
-use Rattle.cd_moves.specs.declared.session.Phase.{Phase}
-use Rattle.cd_moves.specs.declared.session.Phase.TheVariants.{Gone}
-use Rattle.cd_moves.specs.declared.session.Then.{Then}
-use Rattle.cd_moves.specs.declared.session.Then.TheVariants.{Push, Offered, Onto, Piece}
-use Rattle.cd_moves.specs.Closing.{key_under_way}
-use Rattle.cd_moves.specs.Node.{Node, Sessions, Deed, Keep, Touch, AskSize, AskBytes, Begin, Go, Part, Answers, put, did, does, recorded}
-use Rattle.cd_moves.specs.Rows.{checked, first_part, part_behind, is_done, most_parts, source_in, row, row_accept, row_choose, row_end, row_trouble, opened}
-use Rattle.cd_moves.specs.Sending.{piece_len}
+use Rattle.cd_rules.specs.Keys.{same_key}
+use Rattle.cd_rules.specs.Openings.{open_on}
+use Rattle.cd_rules.specs.Processes.{submitted}
+use Rattle.cd_rules.specs.Status as status
+use Rattle.cd_rules.specs.Status.{Status, mark}
+use Rattle.cd_rules.specs.Legal.{allowed}
+use Rattle.cd_rules.specs.Promises.{HavePriorities}
+use Rattle.cd_rules.specs.Steps.{what_at}
+use Rattle.cd_protocol.specs.declared.session.Phase.{Phase}
+use Rattle.cd_protocol.specs.declared.session.Phase.TheVariants.{Gone}
+use Rattle.cd_protocol.specs.declared.session.Continuation.{Continuation}
+use Rattle.cd_protocol.specs.declared.session.Continuation.TheVariants.{Push, Offered, Onto, Piece}
+use Rattle.cd_protocol.specs.Closing.{key_under_way}
+use Rattle.cd_protocol.specs.Node.{Node, Sessions, Effect, Keep, Touch, AskSize, AskBytes, Begin, Go, Reaction, Answers, put, did, does, recorded}
+use Rattle.cd_protocol.specs.Rows.{checked, first_reaction, reaction_behind, is_done, most_reactions, source_in, row, row_accept, row_choose, row_end, row_trouble, opened}
+use Rattle.cd_protocol.specs.Sending.{piece_len}
 
 -- The two nodes.
 pub data At : Type 0 where
@@ -81,7 +81,7 @@ abbrev pub seen_from : At → World → World
 seen_from A w = w
 seen_from B w = record w { a = w.b; b = w.a }
 
--- What a deed of the first node makes of the world.
+-- What an effect of the first node makes of the world.
 
 -- an entry is recorded: a receiving begins without bytes, and an outcome settles the file
 abbrev pub received_by : Entry → (Key → List ℕ) → Key → List ℕ
@@ -118,7 +118,7 @@ noted_by x journal received _ notes = notes
 abbrev pub kept : ℕ → Entry → Half → Half
 kept sid e half = record half {
   node = did sid (Keep e) half.node;
-  settled = settled_by half.node.desk.journal half.received e half.settled;
+  settled = settled_by half.node.view.journal half.received e half.settled;
   received = received_by e half.received;
 }
 
@@ -138,7 +138,7 @@ written_by journal key _ received = received
 abbrev pub touched : ℕ → FileChange → Half → Half
 touched sid change half = record half {
   node = did sid (Touch change) half.node;
-  received = written_by half.node.desk.journal (key_under_way (half.node.sessions.phase sid)) change half.received;
+  received = written_by half.node.view.journal (key_under_way (half.node.sessions.phase sid)) change half.received;
 }
 
 -- what the files tell: the length of a file, and bytes of it from a place on
@@ -184,17 +184,17 @@ sent sid phase frames half = record half {
   ends = if is_gone phase then at_session sid true half.ends else half.ends;
 }
 
-abbrev pub world_did : At → ℕ → Deed → World → World
-world_did x sid (Keep e) w = record w { a = kept sid e w.a; notes = noted_by x w.a.node.desk.journal w.a.received e w.notes }
+abbrev pub world_did : At → ℕ → Effect → World → World
+world_did x sid (Keep e) w = record w { a = kept sid e w.a; notes = noted_by x w.a.node.view.journal w.a.received e w.notes }
 world_did x sid (Touch change) w = record w { a = touched sid change w.a }
 world_did x sid (AskSize name) w = record w { notes = Sized x name (size_told w.a name) ∷ w.notes }
 world_did x sid (AskBytes name at len) w = record w { notes = read_for x (key_under_way (w.a.node.sessions.phase sid)) at (bytes_told w.a name at len) w.notes }
 world_did x sid (Begin key phase) w = record w { a = record w.a { node = did sid (Begin key phase) w.a.node } }
 world_did x sid (Go phase frames) w = record w { a = went_on sid phase frames w.a; b = sent sid phase frames w.b }
 
-abbrev pub world_does : At → ℕ → List Deed → World → World
+abbrev pub world_does : At → ℕ → List Effect → World → World
 world_does x sid [] w = w
-world_does x sid (deed ∷ deeds) w = world_does x sid deeds (world_did x sid deed w)
+world_does x sid (effect ∷ effects) w = world_does x sid effects (world_did x sid effect w)
 
 -- What happens at a node.
 pub data Happening : Type 0 where
@@ -207,19 +207,19 @@ pub data Happening : Type 0 where
   -- the end of a session is found
   End : ℕ → Happening
 
--- what a happening is: the session, the deeds of its row, and the world in which they begin
+-- what a happening is: the session, the effects of its row, and the world in which they begin
 pub record Task : Type 0 where
   pub sid : ℕ
-  pub deeds : List Deed
+  pub effects : List Effect
   pub world : World
 
 -- nothing happens
 abbrev pub nothing : World → Task
-nothing w = record { sid = w.sessions; deeds = []; world = w }
+nothing w = record { sid = w.sessions; effects = []; world = w }
 
 -- a new session, which the other node can accept
-abbrev pub opens : List Deed → Bool
-opens (Go phase frames ∷ deeds) = true
+abbrev pub opens : List Effect → Bool
+opens (Go phase frames ∷ effects) = true
 opens _ = false
 
 abbrev pub with_session : World → World
@@ -229,12 +229,12 @@ with_session w = record w {
   sessions = suc w.sessions;
 }
 
-abbrev pub chosen : World → List Deed → Task
-chosen w deeds = record { sid = w.sessions; deeds = deeds; world = if opens deeds then with_session w else w }
+abbrev pub chosen : World → List Effect → Task
+chosen w effects = record { sid = w.sessions; effects = effects; world = if opens effects then with_session w else w }
 
 abbrev pub called : World → List ℕ → Task
 called w [] = nothing w
-called w (sid ∷ more) = record { sid = sid; deeds = row_accept; world = record w { a = record w.a { node = opened sid w.a.node; calls = more } } }
+called w (sid ∷ more) = record { sid = sid; effects = row_accept; world = record w { a = record w.a { node = opened sid w.a.node; calls = more } } }
 
 -- the clock tells the moment
 abbrev pub answers_now : World → Answers → Answers
@@ -244,12 +244,12 @@ abbrev pub came : World → ℕ → Answers → List Message → Task
 came w sid answers [] = nothing w
 came w sid answers (m ∷ more) = record {
   sid = sid;
-  deeds = row w.a.node sid (answers_now w answers) m;
+  effects = row w.a.node sid (answers_now w answers) m;
   world = record w { a = record w.a { way = at_session sid more w.a.way } };
 }
 
 abbrev pub ended : World → ℕ → Bool → List Message → Task
-ended w sid true [] = record { sid = sid; deeds = row_end w.a.node sid w.clock; world = w }
+ended w sid true [] = record { sid = sid; effects = row_end w.a.node sid w.clock; world = w }
 ended w sid _ _ = nothing w
 
 -- a node that is up handles what there is; a session that is closed has nothing more
@@ -262,13 +262,13 @@ task_of w (End sid) = if is_gone (w.a.node.sessions.phase sid) then nothing w el
 abbrev pub task : World → Happening → Task
 task w happening = if w.a.up then task_of w happening else nothing w
 
--- The files answer what they tell when they are asked, behind each part of a row.
-abbrev pub AreTold : Node → Then → Answers → Type 0
-AreTold node (Push talk key) answers =
-    answers.source ≡ option_map (λ bytes. length bytes) (node.shelf.seen (source_in (what_at node.desk.config.read node.desk.journal key.number key.place)))
-AreTold node (Offered talk key name interval) answers = answers.source ≡ option_map (λ bytes. length bytes) (node.shelf.seen name)
-AreTold node (Onto role talk key a) answers = answers.there ≡ option_map (λ bytes. length bytes) (node.shelf.seen a.name)
-AreTold node (Piece role talk key source offset) answers = answers.bytes ≡ take (piece_len talk source offset) (drop offset (content_of (node.shelf.seen source.name)))
+-- The files answer what they tell when they are asked, behind each reaction of a row.
+abbrev pub AreTold : Node → Continuation → Answers → Type 0
+AreTold node (Push terms key) answers =
+    answers.source ≡ option_map (λ bytes. length bytes) (node.shelf.seen (source_in (what_at node.view.config.read node.view.journal key.number key.place)))
+AreTold node (Offered terms key name interval) answers = answers.source ≡ option_map (λ bytes. length bytes) (node.shelf.seen name)
+AreTold node (Onto role terms key a) answers = answers.there ≡ option_map (λ bytes. length bytes) (node.shelf.seen a.name)
+AreTold node (Piece role terms key source offset) answers = answers.bytes ≡ take (piece_len terms source offset) (drop offset (content_of (node.shelf.seen source.name)))
 AreTold node _ answers = Unit {0}
 
 -- so all of them do
@@ -276,18 +276,18 @@ abbrev pub Unless : Bool → Type 0 → Type 0
 Unless true T = Unit {0}
 Unless false T = T
 
-unfoldable pub AllTold : ℕ → Node → ℕ → Answers → Part → Type 0
-AllTold zero node sid answers part = Unit {0}
-AllTold (suc more) node sid answers part =
-    let after = does sid part.deeds node in
+unfoldable pub AllTold : ℕ → Node → ℕ → Answers → Reaction → Type 0
+AllTold zero node sid answers reaction = Unit {0}
+AllTold (suc more) node sid answers reaction =
+    let after = does sid reaction.effects node in
     let phase = after.sessions.phase sid in
-    AreTold after part.later answers
-    × Unless (is_done part.later) (AllTold more after sid answers (checked after.desk answers.now phase (part_behind after.desk answers.now phase answers part.later)))
+    AreTold after reaction.later answers
+    × Unless (is_done reaction.later) (AllTold more after sid answers (checked after.view answers.now phase (reaction_behind after.view answers.now phase answers reaction.later)))
 
 abbrev pub ToldFor : World → ℕ → Answers → List Message → Type 0
 ToldFor w sid answers [] = Unit {0}
 ToldFor w sid answers (m ∷ more) =
-    AllTold most_parts w.a.node sid (answers_now w answers) (first_part w.a.node.desk w.a.node.sessions w.clock sid m)
+    AllTold most_reactions w.a.node sid (answers_now w answers) (first_reaction w.a.node.view w.a.node.sessions w.clock sid m)
 
 abbrev pub Told : World → Happening → Type 0
 Told w (Frame sid answers) = ToldFor w sid answers (w.a.way sid)
@@ -295,14 +295,14 @@ Told w _ = Unit {0}
 
 -- A happening, done whole.
 abbrev pub world_after : At → Happening → World → World
-world_after x happening w = let t = task w happening in world_does x t.sid t.deeds t.world
+world_after x happening w = let t = task w happening in world_does x t.sid t.effects t.world
 
 -- a first part of it, and what is left
 abbrev pub world_within : At → Happening → ℕ → World → World
-world_within x happening k w = let t = task w happening in world_does x t.sid (take k t.deeds) t.world
+world_within x happening k w = let t = task w happening in world_does x t.sid (take k t.effects) t.world
 
-abbrev pub deeds_left : Happening → ℕ → World → List Deed
-deeds_left happening k w = drop k (task w happening).deeds
+abbrev pub effects_left : Happening → ℕ → World → List Effect
+effects_left happening k w = drop k (task w happening).effects
 
 -- A call of the files fails: it changed nothing, or it was begun and left something that is in doubt. Behind it the row goes on
 -- as after a fault.
@@ -310,19 +310,19 @@ pub data Cut : Type 0 where
   Unchanged : Cut
   Begun : Option (List ℕ) → Cut
 
-abbrev pub cut_off : Cut → List Deed → Shelf → Shelf
-cut_off (Begun left) (Touch change ∷ deeds) shelf = record { seen = shelves.put (name_of change) left shelf.seen; doubt = within change shelf }
+abbrev pub cut_off : Cut → List Effect → Shelf → Shelf
+cut_off (Begun left) (Touch change ∷ effects) shelf = record { seen = shelves.put (name_of change) left shelf.seen; doubt = within change shelf }
 cut_off _ _ shelf = shelf
 
 abbrev pub MayLeave : FileChange → Option (List ℕ) → Shelf → Type 0
 MayLeave (shelves.SyncFile name) left shelf = ⊥
 MayLeave change left shelf = IsFileImage (within change shelf (name_of change)) left
 
-abbrev pub IsCutOff : Cut → List Deed → Shelf → Type 0
-IsCutOff (Begun left) (Touch change ∷ deeds) shelf = MayLeave change left shelf
-IsCutOff Unchanged (Touch change ∷ deeds) shelf = Unit {0}
-IsCutOff Unchanged (AskSize name ∷ deeds) shelf = Unit {0}
-IsCutOff Unchanged (AskBytes name at len ∷ deeds) shelf = Unit {0}
+abbrev pub IsCutOff : Cut → List Effect → Shelf → Type 0
+IsCutOff (Begun left) (Touch change ∷ effects) shelf = MayLeave change left shelf
+IsCutOff Unchanged (Touch change ∷ effects) shelf = Unit {0}
+IsCutOff Unchanged (AskSize name ∷ effects) shelf = Unit {0}
+IsCutOff Unchanged (AskBytes name at len ∷ effects) shelf = Unit {0}
 IsCutOff _ _ shelf = ⊥
 
 abbrev pub with_shelf : Shelf → World → World
@@ -332,7 +332,7 @@ abbrev pub world_faulted : At → Happening → ℕ → Cut → World → World
 world_faulted x happening k cut w =
     let sid = (task w happening).sid in
     let before = world_within x happening k w in
-    let cut_short = with_shelf (cut_off cut (deeds_left happening k w) before.a.node.shelf) before in
+    let cut_short = with_shelf (cut_off cut (effects_left happening k w) before.a.node.shelf) before in
     world_does x sid (row_trouble cut_short.a.node sid cut_short.clock) cut_short
 
 -- A stop behind a first part of a row: the journal has the entries of that part, the files are what a crash may leave, also
@@ -340,14 +340,14 @@ world_faulted x happening k cut w =
 abbrev pub no_sessions : Sessions
 no_sessions = record { sids = []; phase = λ sid. Gone; holder = λ key. None }
 
-abbrev pub IsLeft : FileMap → List Deed → Shelf → Type 0
-IsLeft image (Touch change ∷ deeds) shelf = IsShelfImage (within change shelf) image
+abbrev pub IsLeft : FileMap → List Effect → Shelf → Type 0
+IsLeft image (Touch change ∷ effects) shelf = IsShelfImage (within change shelf) image
 IsLeft image _ shelf = IsShelfImage shelf.doubt image
 
 abbrev pub down : FileMap → World → World
 down image w = record w {
   a = record w.a {
-    node = record { desk = w.a.node.desk; shelf = settled_shelf image; sessions = no_sessions };
+    node = record { view = w.a.node.view; shelf = settled_shelf image; sessions = no_sessions };
     up = false;
     calls = [];
     way = λ sid. [];
@@ -366,7 +366,7 @@ marked journal received key = take (mark journal key) (received key)
 abbrev pub world_started : World → World
 world_started w =
     if w.a.up then w
-    else record w { a = record w.a { node = record w.a.node { sessions = no_sessions }; up = true; received = marked w.a.node.desk.journal w.a.received } }
+    else record w { a = record w.a { node = record w.a.node { sessions = no_sessions }; up = true; received = marked w.a.node.view.journal w.a.received } }
 
 -- A loss: only the first frames that are on the way in a session arrive, and then its end.
 abbrev pub world_lost : ℕ → ℕ → World → World
@@ -387,29 +387,29 @@ world_written x name bytes w = record w {
       };
     };
     settled = shelves.put name (Some bytes) w.a.settled;
-    spoiled = spoiled_by (open_on w.a.node.desk.journal name) name w.a.spoiled;
+    spoiled = spoiled_by (open_on w.a.node.view.journal name) name w.a.spoiled;
   };
   notes = Wrote x name bytes ∷ w.notes;
 }
 
 -- A Process is submitted.
 abbrev pub submission_of : Filed → List ℕ → World → Entry
-submission_of card text w = entry.Submitted (submitted w.a.node.desk.journal + 1) w.clock None card text
+submission_of card text w = entry.Submitted (submitted w.a.node.view.journal + 1) w.clock None card text
 
 abbrev pub world_submitted : Filed → List ℕ → World → World
 world_submitted card text w =
     let e = submission_of card text w in
-    if w.a.up && allowed w.a.node.desk.config.read w.a.node.desk.journal e
-    then record w { a = record w.a { node = record w.a.node { desk = recorded e w.a.node.desk } } }
+    if w.a.up && allowed w.a.node.view.config.read w.a.node.view.journal e
+    then record w { a = record w.a { node = record w.a.node { view = recorded e w.a.node.view } } }
     else w
 
 -- All that may happen. An event that isn't possible changes nothing.
 pub data Event : Type 0 where
   -- a node handles what happens
   Does : At → Happening → Event
-  -- a call of its files fails behind so many deeds
+  -- a call of its files fails behind so many effects
   Fails : At → Happening → ℕ → Cut → Event
-  -- it stops behind so many deeds, and these files are left
+  -- it stops behind so many effects, and these files are left
   Stops : At → Happening → ℕ → FileMap → Event
   Starts : At → Event
   -- in a session only so many frames on the way to a node arrive
@@ -439,9 +439,9 @@ happens w (Submits x card text) = seen_from x (world_submitted card text (seen_f
 abbrev pub IsPossible : World → Event → Type 0
 IsPossible w (Does x happening) = Told (seen_from x w) happening
 IsPossible w (Fails x happening k cut) =
-    Told (seen_from x w) happening × IsCutOff cut (deeds_left happening k (seen_from x w)) (world_within x happening k (seen_from x w)).a.node.shelf
+    Told (seen_from x w) happening × IsCutOff cut (effects_left happening k (seen_from x w)) (world_within x happening k (seen_from x w)).a.node.shelf
 IsPossible w (Stops x happening k image) =
-    Told (seen_from x w) happening × IsLeft image (deeds_left happening k (seen_from x w)) (world_within x happening k (seen_from x w)).a.node.shelf
+    Told (seen_from x w) happening × IsLeft image (effects_left happening k (seen_from x w)) (world_within x happening k (seen_from x w)).a.node.shelf
 IsPossible w _ = Unit {0}
 
 -- one event after another
@@ -456,8 +456,8 @@ ArePossible w (event ∷ events) = IsPossible w event × ArePossible (happens w 
 -- A world at its beginning: each journal has its Home alone, nothing was received, and there is no session. The texts of
 -- Processes have priorities of 1 to 15.
 pub record IsNew (name : List ℕ) (home : ℕ) (half : Half) : Type 0 where
-  pub journal : half.node.desk.journal ≡ entry.Home name home ∷ []
-  pub priorities : HavePriorities half.node.desk.config.read
+  pub journal : half.node.view.journal ≡ entry.Home name home ∷ []
+  pub priorities : HavePriorities half.node.view.config.read
   pub files : FileMap
   pub shelf : half.node.shelf ≡ settled_shelf files
   pub settled : half.settled ≡ files

@@ -1,7 +1,7 @@
 //! Worked lists of events, so that the law speaks of something.
 ghost use Rattle.std.specs.Prelude.{◌≡◌, [], ◌∷◌, codes, Some};
-ghost use Rattle.cd_status.specs.Processes.{ended};
-ghost use Rattle.cd_moves.specs.Worked.{worked_key};
+ghost use Rattle.cd_rules.specs.Processes.{ended};
+ghost use Rattle.cd_protocol.specs.Worked.{worked_key};
 ghost use Rattle.cd_world.specs.Holds.{landings, noted_landings, left_of};
 ghost use Rattle.cd_world.specs.Worked.{bytes, five, worked_receiving, worked_world, worked_events, lossy_world, lossy_events};
 ghost use Rattle.cd_world.specs.World.{A, B, Landed, IsFirst, ArePossible, after};
@@ -12,7 +12,7 @@ ghost use Rattle.cd_world.specs.World.{A, B, Landed, IsFirst, ArePossible, after
 pub fn worked_push()
     ensures first { IsFirst worked_world }
     ensures possible { ArePossible worked_world worked_events }
-    ensures ended_is { ended (after worked_world worked_events).a.node.desk.journal 1 ≡ (0, 0) ∷ [] }
+    ensures ended_is { ended (after worked_world worked_events).a.node.view.journal 1 ≡ (0, 0) ∷ [] }
     ensures landed { landings B worked_key (after worked_world worked_events).notes ≡ bytes ∷ [] }
     ensures noted { noted_landings B worked_key (after worked_world worked_events).notes ≡ Landed B (worked_receiving 3 0) bytes ∷ [] }
     ensures file { (after worked_world worked_events).b.node.shelf.seen (codes "b") ≡ Some bytes }
@@ -24,7 +24,7 @@ pub fn worked_push()
 pub fn worked_loss()
     ensures first { IsFirst lossy_world }
     ensures possible { ArePossible lossy_world lossy_events }
-    ensures ended_is { ended (after lossy_world lossy_events).a.node.desk.journal 1 ≡ (0, 0) ∷ [] }
+    ensures ended_is { ended (after lossy_world lossy_events).a.node.view.journal 1 ≡ (0, 0) ∷ [] }
     ensures landed { landings B worked_key (after lossy_world lossy_events).notes ≡ five ∷ [] }
     ensures noted { noted_landings B worked_key (after lossy_world lossy_events).notes ≡ Landed B (worked_receiving 5 4) five ∷ [] }
     ensures file { (after lossy_world lossy_events).b.node.shelf.seen (codes "b") ≡ Some five }

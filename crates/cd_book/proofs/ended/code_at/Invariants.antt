@@ -1,5 +1,5 @@
 use Rattle.std.proofs.Common.{◌≡◌, reverse, take}
-use Rattle.cd_status.specs.Processes.{ended}
+use Rattle.cd_rules.specs.Processes.{ended}
 use Rattle.cd_ast.specs.Walk.{code_at}
 use Rattle.cd_book.proofs.ended.code_at.Given as goal
 

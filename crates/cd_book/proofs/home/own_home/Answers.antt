@@ -1,5 +1,5 @@
 use Rattle.std.proofs.Common.{refl}
-use Rattle.cd_status.specs.Processes.{own_home}
+use Rattle.cd_rules.specs.Processes.{own_home}
 use Rattle.cd_book.proofs.Newest.{one_more, all_of}
 use Rattle.cd_book.proofs.home.own_home.Goals as goal
 

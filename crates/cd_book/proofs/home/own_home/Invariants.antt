@@ -1,5 +1,5 @@
 use Rattle.std.proofs.Common.{◌≡◌, reverse, take}
-use Rattle.cd_status.specs.Processes.{own_home}
+use Rattle.cd_rules.specs.Processes.{own_home}
 use Rattle.cd_book.proofs.home.own_home.Given as goal
 
 abbrev pub invariant-loop-entry : goal.invariant-loop-entry

@@ -2,7 +2,7 @@ use Rattle.std.proofs.Common.{◌≡◌, ◌-◌, true, false, not, ◌&&◌, sy
 use Rattle.std.specs.List.{list_any}
 use Rattle.std.specs.Str.{bytes_eq}
 use Rattle.cd_types.specs.declared.rows.Receiving.{Receiving}
-use Rattle.cd_status.specs.Keys.{same_key}
+use Rattle.cd_rules.specs.Keys.{same_key}
 use Rattle.cd_book.proofs.StillOpen.{none_behind, found_any}
 use Rattle.cd_book.proofs.openings.is_in_use.Goals as goal
 

@@ -1,5 +1,5 @@
 use Rattle.std.proofs.Common.{◌≡◌, ◌+◌, Bool, true, false, not, cond, [], ◌∷◌, ◌++◌, drop, reverse, ap, ◌∙◌}
-use Rattle.cd_status.specs.Openings.{openings}
+use Rattle.cd_rules.specs.Openings.{openings}
 use Rattle.cd_book.specs.Opening.{closed_by}
 use Rattle.cd_book.proofs.StillOpen.{begun_at, none_begun_at, from_on}
 use Rattle.cd_book.proofs.openings.open_at.Goals as goal

@@ -1,7 +1,7 @@
 use Rattle.std.proofs.Common.{◌≡◌, ◌+◌, ◌-◌, ℕ, List, None, reverse, drop, sym, ap, subst, ◌∙◌, arith}
 use Rattle.std.specs.Str.{bytes_eq}
 use Rattle.cd_types.specs.declared.rows.Receiving.{Receiving}
-use Rattle.cd_status.specs.Openings.{openings, on_file}
+use Rattle.cd_rules.specs.Openings.{openings, on_file}
 use Rattle.cd_book.proofs.StillOpen.{none_behind, found_on, not_on}
 use Rattle.cd_book.proofs.openings.open_on.Goals as goal
 

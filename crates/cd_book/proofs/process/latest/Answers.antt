@@ -1,5 +1,5 @@
 use Rattle.std.proofs.Common.{refl}
-use Rattle.cd_status.specs.Processes.{latest}
+use Rattle.cd_rules.specs.Processes.{latest}
 use Rattle.cd_book.proofs.Newest.{one_more, all_of}
 use Rattle.cd_book.proofs.process.latest.Goals as goal
 

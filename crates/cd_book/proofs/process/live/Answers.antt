@@ -1,6 +1,6 @@
 use Rattle.std.proofs.Common.{◌≡◌, ◌+◌, ℕ, Bool, List, cond, reverse, length, refl, sym, ap, ◌∙◌, arith}
 use Rattle.std.specs.Prelude.{filter}
-use Rattle.cd_status.specs.Processes.{is_live, submitted}
+use Rattle.cd_rules.specs.Processes.{is_live, submitted}
 use Rattle.cd_book.specs.Numbers.{upto}
 use Rattle.cd_book.proofs.Counted.{count_more}
 use Rattle.cd_book.proofs.process.live.Goals as goal

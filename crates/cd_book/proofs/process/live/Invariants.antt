@@ -1,6 +1,6 @@
 use Rattle.std.proofs.Common.{◌≡◌, ◌≤◌, length, reverse}
 use Rattle.std.specs.Prelude.{filter}
-use Rattle.cd_status.specs.Processes.{is_live}
+use Rattle.cd_rules.specs.Processes.{is_live}
 use Rattle.cd_book.specs.Numbers.{upto}
 use Rattle.cd_book.proofs.process.live.Given as goal
 

@@ -1,5 +1,5 @@
 use Rattle.std.proofs.Common.{◌≡◌, reverse, take}
-use Rattle.cd_status.specs.Processes.{made_for}
+use Rattle.cd_rules.specs.Processes.{made_for}
 use Rattle.cd_book.proofs.process.made_for.Given as goal
 
 abbrev pub invariant-loop-entry : goal.invariant-loop-entry

@@ -1,5 +1,5 @@
 use Rattle.std.proofs.Common.{refl, arith}
-use Rattle.cd_status.specs.Processes.{submitted}
+use Rattle.cd_rules.specs.Processes.{submitted}
 use Rattle.cd_book.proofs.Newest.{one_more, all_of}
 use Rattle.cd_book.proofs.process.submitted.Goals as goal
 

@@ -1,5 +1,5 @@
 use Rattle.std.proofs.Common.{refl, List}
-use Rattle.cd_status.specs.Processes.{submission}
+use Rattle.cd_rules.specs.Processes.{submission}
 use Rattle.cd_book.specs.Seen.{told_in}
 use Rattle.cd_entries.specs.declared.entry.Entry.{Entry}
 use Rattle.cd_book.proofs.Newest.{one_more, all_of}

@@ -1,5 +1,5 @@
 use Rattle.std.proofs.Common.{◌≡◌, reverse, take}
-use Rattle.cd_status.specs.Processes.{submission}
+use Rattle.cd_rules.specs.Processes.{submission}
 use Rattle.cd_book.specs.Seen.{told_in}
 use Rattle.cd_book.proofs.process.submitting.Given as goal
 

@@ -1,8 +1,8 @@
 use Rattle.std.proofs.Common.{◌≡◌, drop, reverse}
 use Rattle.std.specs.Prelude.{filter}
 use Rattle.std.specs.List.{filter_map}
-use Rattle.cd_status.specs.Processes.{is_live, submitted}
-use Rattle.cd_status.specs.Queue.{choice, row_of}
+use Rattle.cd_rules.specs.Processes.{is_live, submitted}
+use Rattle.cd_rules.specs.Queue.{choice, row_of}
 use Rattle.cd_book.specs.Numbers.{upto}
 use Rattle.cd_book.proofs.queue.next_due.Given as goal
 

@@ -2,7 +2,7 @@ use Rattle.std.proofs.Common.{◌≡◌, reverse, take}
 use Rattle.std.specs.Prelude.{option_map}
 use Rattle.std.specs.Borrow.{Bor}
 use Rattle.cd_types.specs.declared.rows.Receiving.{Receiving}
-use Rattle.cd_status.specs.Status.{last_receiving}
+use Rattle.cd_rules.specs.Status.{last_receiving}
 use Rattle.cd_book.proofs.step.last_receiving.Given as goal
 
 abbrev pub invariant-loop-entry : goal.invariant-loop-entry

@@ -1,5 +1,5 @@
 use Rattle.std.proofs.Common.{refl, List, arith}
-use Rattle.cd_status.specs.Status.{starts}
+use Rattle.cd_rules.specs.Status.{starts}
 use Rattle.cd_entries.specs.declared.entry.Entry.{Entry}
 use Rattle.cd_book.proofs.Newest.{one_more, all_of}
 use Rattle.cd_book.proofs.step.starts.Goals as goal

@@ -1,5 +1,5 @@
 use Rattle.std.proofs.Common.{◌≡◌, ◌≤◌, reverse, take}
-use Rattle.cd_status.specs.Status.{status}
+use Rattle.cd_rules.specs.Status.{status}
 use Rattle.cd_book.specs.Seen.{seen_status, times_of}
 use Rattle.cd_book.proofs.step.status.Given as goal
 

@@ -23,28 +23,28 @@ returns-in_default-clause-goes g c = λ told.
 -- a last turn was made
 pub returns-in-Ok-clause-finishes : goal.returns-in-Ok-clause-finishes
 returns-in-Ok-clause-finishes g c = λ was.
-    let by : Turn → Type 0 = GoesBy g.C.Clock.told g.F.Files.told (g.C.Clock.moment c.args.clock.now) (g.F.Files.state c.args.files.now).shelf.seen (Rose (g.F.Files.faults c.args.files.now) (g.F.Files.faults c.found_turn.new.files)) in
+    let by : Turn → Type 0 = GoesBy g.C.Clock.observable g.F.Files.observable (g.C.Clock.moment c.args.clock.now) (g.F.Files.state c.args.files.now).shelf.seen (Rose (g.F.Files.faults c.args.files.now) (g.F.Files.faults c.found_turn.new.files)) in
     let before : Standing = standing c.args.home.now.entries (g.O.Sink.taken c.args.out.now) was in
     let later = c.found_turn.new.home.entries in
     let now = g.P.Disk.state c.found_turn.new.journal in
     let out = g.O.Sink.taken c.found_turn.new.out in
     let brought : List Event = event_of c.in-Some.found ∷ [] in
     let status : c.status.result ≡ status_after (last_in c.in-Ok.flow) = c.status.ensures ∙ ap status_after c.last.ensures in
-    subst (λ (es : List Event). Finishes ((g.P.Disk.state c.args.journal.now).seen ≡ []) g.P.Disk.told g.O.Sink.told by before (g.P.Disk.state c.args.journal.now) es c.args.if_none later now out c.status.result) (sym (ap events_of c.in-Some.is))
-    (subst (λ (s : Status). Closes ((g.P.Disk.state c.args.journal.now).seen ≡ []) g.P.Disk.told g.O.Sink.told by before brought later now out s) (sym status)
-    (closes_after ((g.P.Disk.state c.args.journal.now).seen ≡ []) g.P.Disk.told g.O.Sink.told by before brought later now out (last_in c.in-Ok.flow) (c.in-Ok.ensures.went was).turned))
+    subst (λ (es : List Event). Finishes ((g.P.Disk.state c.args.journal.now).seen ≡ []) g.P.Disk.observable g.O.Sink.observable by before (g.P.Disk.state c.args.journal.now) es c.args.if_none later now out c.status.result) (sym (ap events_of c.in-Some.is))
+    (subst (λ (s : Status). Closes ((g.P.Disk.state c.args.journal.now).seen ≡ []) g.P.Disk.observable g.O.Sink.observable by before brought later now out s) (sym status)
+    (closes_after ((g.P.Disk.state c.args.journal.now).seen ≡ []) g.P.Disk.observable g.O.Sink.observable by before brought later now out (last_in c.in-Ok.flow) (c.in-Ok.ensures.went was).turned))
 
 -- the run was ended within it
 pub returns-clause-finishes : goal.returns-clause-finishes
 returns-clause-finishes g c = λ was.
-    let by : Turn → Type 0 = GoesBy g.C.Clock.told g.F.Files.told (g.C.Clock.moment c.args.clock.now) (g.F.Files.state c.args.files.now).shelf.seen (Rose (g.F.Files.faults c.args.files.now) (g.F.Files.faults c.found_turn.new.files)) in
+    let by : Turn → Type 0 = GoesBy g.C.Clock.observable g.F.Files.observable (g.C.Clock.moment c.args.clock.now) (g.F.Files.state c.args.files.now).shelf.seen (Rose (g.F.Files.faults c.args.files.now) (g.F.Files.faults c.found_turn.new.files)) in
     let before : Standing = standing c.args.home.now.entries (g.O.Sink.taken c.args.out.now) was in
     let later = c.found_turn.new.home.entries in
     let now = g.P.Disk.state c.found_turn.new.journal in
     let out = g.O.Sink.taken c.found_turn.new.out in
     let brought : List Event = event_of c.in-Some.found ∷ [] in
-    subst (λ (es : List Event). Finishes ((g.P.Disk.state c.args.journal.now).seen ≡ []) g.P.Disk.told g.O.Sink.told by before (g.P.Disk.state c.args.journal.now) es c.args.if_none later now out c.in-Err.status) (sym (ap events_of c.in-Some.is))
-    (closes_halted ((g.P.Disk.state c.args.journal.now).seen ≡ []) g.P.Disk.told g.O.Sink.told by before brought later now out c.in-Err.status (c.in-Err.ensures.halted was))
+    subst (λ (es : List Event). Finishes ((g.P.Disk.state c.args.journal.now).seen ≡ []) g.P.Disk.observable g.O.Sink.observable by before (g.P.Disk.state c.args.journal.now) es c.args.if_none later now out c.in-Err.status) (sym (ap events_of c.in-Some.is))
+    (closes_halted ((g.P.Disk.state c.args.journal.now).seen ≡ []) g.P.Disk.observable g.O.Sink.observable by before brought later now out c.in-Err.status (c.in-Err.ensures.halted was))
 
 pub returns-clause-legal : goal.returns-clause-legal
 returns-clause-legal g c = between_cut (IsLegal c.found_turn.new.home.entries) c.in-Err.status (c.in-Err.ensures.halted false).within

@@ -1,6 +1,6 @@
 use Rattle.std.proofs.Common.{ℕ, List, length, ◌++◌, ap, ◌∙◌, None}
 use Rattle.cd_entries.specs.declared.entry.Entry.{Entry}
-use Rattle.cd_reading.specs.Read.{canonical_reading}
+use Rattle.cd_canonical.specs.Read.{canonical_reading}
 use Rattle.cd_stats.specs.Statistics.{statistics}
 use Rattle.cd_drill.specs.AtRest.{entries_of, seen_of, names_in}
 use Rattle.cd_drill.specs.Report.{head_line, file_lines}

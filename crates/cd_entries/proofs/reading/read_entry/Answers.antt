@@ -1,5 +1,5 @@
 use Rattle.std.proofs.Common.{arith}
-use Rattle.cd_entries.specs.EntryLaw.{entry_only, entry_writable}
+use Rattle.cd_entries.proofs.EntryLaw.{entry_only, entry_writable}
 use Rattle.cd_entries.proofs.reading.read_entry.Goals as goal
 
 pub returns-in-Ok-clause-writable : goal.returns-in-Ok-clause-writable

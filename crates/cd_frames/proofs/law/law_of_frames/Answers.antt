@@ -1,5 +1,5 @@
-use Rattle.cd_frames.specs.FrameLaw.{message_only}
-use Rattle.cd_frames.specs.StreamLaw.{no_frame_begins_another}
+use Rattle.cd_frames.proofs.FrameLaw.{message_only}
+use Rattle.cd_frames.proofs.StreamLaw.{no_frame_begins_another}
 use Rattle.cd_frames.proofs.law.law_of_frames.Goals as goal
 
 pub returns-clause-only : goal.returns-clause-only

@@ -1,6 +1,6 @@
 use Rattle.std.proofs.Common.{◌∙◌, ap, sym, subst}
-use Rattle.cd_frames.specs.FramesLaw.{GivesNone}
-use Rattle.cd_frames.specs.RunLaw.{all_given, given_begins, run_stands}
+use Rattle.cd_frames.proofs.FramesLaw.{GivesNone}
+use Rattle.cd_frames.proofs.RunLaw.{all_given, given_begins, run_stands}
 use Rattle.cd_frames.specs.Stream.{fault_of, Front}
 use Rattle.cd_frames.proofs.law.law_of_readers.Goals as goal
 

@@ -1,4 +1,4 @@
-use Rattle.cd_frames.specs.FramesLaw.{frames_are, frames_found, frames_of_joined}
+use Rattle.cd_frames.proofs.FramesLaw.{frames_are, frames_found, frames_of_joined}
 use Rattle.cd_frames.proofs.law.law_of_streams.Goals as goal
 
 pub returns-clause-found : goal.returns-clause-found

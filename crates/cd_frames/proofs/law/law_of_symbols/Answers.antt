@@ -1,5 +1,5 @@
 use Rattle.std.proofs.Common.{[]}
-use Rattle.cd_frames.specs.SymbolsLaw.{is_symbols_is, symbols_again, symbols_only, with_pairs_new}
+use Rattle.cd_frames.proofs.SymbolsLaw.{is_symbols_is, symbols_again, symbols_only, with_pairs_new}
 use Rattle.cd_frames.proofs.law.law_of_symbols.Goals as goal
 
 pub returns-clause-again : goal.returns-clause-again

@@ -1,5 +1,5 @@
 use Rattle.std.proofs.Common.{sym, arith}
-use Rattle.cd_frames.specs.StreamLaw.{number_front}
+use Rattle.cd_frames.proofs.StreamLaw.{number_front}
 use Rattle.cd_frames.proofs.next.front_of.Goals as goal
 
 pub returns-in-Some-frame_of-clause-within : goal.returns-in-Some-frame_of-clause-within

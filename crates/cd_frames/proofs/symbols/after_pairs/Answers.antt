@@ -1,5 +1,5 @@
 use Rattle.std.proofs.Common.{◌≡◌, ◌-◌, ◌∙◌, sym, arith}
-use Rattle.cd_frames.specs.SymbolsLaw.{after_none, after_one}
+use Rattle.cd_frames.proofs.SymbolsLaw.{after_none, after_one}
 use Rattle.cd_frames.proofs.symbols.after_pairs.Goals as goal
 
 pub returns-in_err-more : goal.returns-in_err-more

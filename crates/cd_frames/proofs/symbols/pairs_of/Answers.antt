@@ -1,5 +1,5 @@
 use Rattle.std.proofs.Common.{sym}
-use Rattle.cd_frames.specs.SymbolsLaw.{pairs_of_front, pairs_of_none}
+use Rattle.cd_frames.proofs.SymbolsLaw.{pairs_of_front, pairs_of_none}
 use Rattle.cd_frames.proofs.symbols.pairs_of.Goals as goal
 
 pub returns-in_default : goal.returns-in_default

@@ -1,6 +1,6 @@
 use Rattle.std.proofs.Common.{◌+◌, ℕ, List, length, drop, ap, sym, arith, length-append}
 use Rattle.cd_frames.specs.Symbols.{pairs_bytes, symbol}
-use Rattle.cd_frames.specs.SymbolsLaw.{pair_form, rest_pair, there_is}
+use Rattle.cd_frames.proofs.SymbolsLaw.{pair_form, rest_pair, there_is}
 use Rattle.cd_frames.proofs.symbols.pairs_size.Goals as goal
 
 pub symbol_size-size-requires-clause-name : goal.symbol_size-size-requires-clause-name

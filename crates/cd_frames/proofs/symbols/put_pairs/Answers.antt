@@ -1,6 +1,6 @@
 use Rattle.std.proofs.Common.{◌+◌, ◌++◌, ℕ, List, length, drop, ap, sym, ◌∙◌, arith, append_assoc, length-append}
 use Rattle.cd_frames.specs.Symbols.{pairs_bytes, symbol}
-use Rattle.cd_frames.specs.SymbolsLaw.{pair_form, rest_pair, there_is}
+use Rattle.cd_frames.proofs.SymbolsLaw.{pair_form, rest_pair, there_is}
 use Rattle.cd_frames.proofs.symbols.put_pairs.Goals as goal
 
 pub put_symbol-requires-clause-name : goal.put_symbol-requires-clause-name

@@ -1,6 +1,6 @@
 use Rattle.std.proofs.Common.{◌-◌, ◌+◌, ap, sym, ◌∙◌}
 use Rattle.cd_frames.specs.Symbols.{given, pairs_in}
-use Rattle.cd_frames.specs.SymbolsLaw.{given_one}
+use Rattle.cd_frames.proofs.SymbolsLaw.{given_one}
 use Rattle.cd_frames.proofs.symbols.set_pairs.Goals as goal
 
 pub loop-place-preserved : goal.loop-place-preserved

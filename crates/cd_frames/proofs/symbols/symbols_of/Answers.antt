@@ -1,5 +1,5 @@
 use Rattle.std.proofs.Common.{arith}
-use Rattle.cd_frames.specs.SymbolsLaw.{made_form}
+use Rattle.cd_frames.proofs.SymbolsLaw.{made_form}
 use Rattle.cd_frames.proofs.symbols.symbols_of.Goals as goal
 
 pub returns-in-Ok-clause-writable : goal.returns-in-Ok-clause-writable

@@ -1,6 +1,6 @@
 use Rattle.std.proofs.Common.{◌≡◌, false, true, get_or, length, take, sym, ◌∙◌, ap}
-use Rattle.cd_content.specs.Exchange.{traffic_in}
-use Rattle.cd_content.specs.Pieces.{has_come}
+use Rattle.cd_memory_state.specs.Exchange.{traffic_in}
+use Rattle.cd_memory_state.specs.Pieces.{has_come}
 use Rattle.cd_memory.proofs.Coming.{none_comes, one_comes, nothing, given_none, given_all}
 use Rattle.cd_memory.proofs.lines.give.Goals as goal
 

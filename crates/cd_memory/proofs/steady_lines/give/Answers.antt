@@ -1,6 +1,6 @@
 use Rattle.std.proofs.Common.{◌≡◌, false, true, get_or, length, take, sym, ◌∙◌, ap}
-use Rattle.cd_content.specs.Roll.{roll_traffic}
-use Rattle.cd_content.specs.Pieces.{has_come}
+use Rattle.cd_memory_state.specs.Roll.{roll_traffic}
+use Rattle.cd_memory_state.specs.Pieces.{has_come}
 use Rattle.cd_memory.proofs.Coming.{none_comes, one_comes, nothing, given_none, given_all}
 use Rattle.cd_memory.proofs.steady_lines.give.Goals as goal
 

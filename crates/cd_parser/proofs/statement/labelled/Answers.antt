@@ -1,4 +1,4 @@
-use Rattle.cd_machine.specs.Machine.{run, next}
+use Rattle.cd_automaton.specs.Machine.{run, next}
 use Rattle.cd_parser.proofs.statement.labelled.Goals as goal
 
 pub returns-in_ok-step-in-Word-clause-ok : goal.returns-in_ok-step-in-Word-clause-ok

@@ -1,5 +1,5 @@
 use Rattle.std.proofs.lemmas.Result.{err_from_is_err_and}
-use Rattle.cd_machine.specs.Machine.{bare_state}
+use Rattle.cd_automaton.specs.Machine.{bare_state}
 use Rattle.cd_parser.proofs.Turns.{bare_some}
 use Rattle.cd_parser.proofs.turn.other_word.Goals as goal
 

@@ -4,8 +4,8 @@ use Rattle.cd_grammar.specs.declared.step.Step.TheVariants as step
 use Rattle.cd_grammar.specs.Answers.{strict}
 use Rattle.cd_grammar.specs.Tokens.{place_of}
 use Rattle.cd_grammar.specs.Given.{nothing}
-use Rattle.cd_machine.specs.State.{At}
-use Rattle.cd_machine.specs.Machine.{whole, run}
+use Rattle.cd_automaton.specs.State.{At}
+use Rattle.cd_automaton.specs.Machine.{whole, run}
 use Rattle.cd_parser.proofs.turn.read.Goals as goal
 
 pub returns-in_err-behind_name-clause-err : goal.returns-in_err-behind_name-clause-err

@@ -1,7 +1,7 @@
 use Rattle.std.proofs.Common.{◌≡◌, length}
 use Rattle.cd_grammar.specs.declared.step.Step.TheVariants as step
 use Rattle.cd_grammar.specs.Given.{nothing}
-use Rattle.cd_machine.specs.State.{At}
+use Rattle.cd_automaton.specs.State.{At}
 use Rattle.cd_parser.specs.Runs.{reads}
 use Rattle.cd_parser.proofs.turn.statements.Given as goal
 

@@ -1,7 +1,7 @@
 use Rattle.std.proofs.Common.{◌≡◌, ◌≤◌, length}
 use Rattle.cd_grammar.specs.declared.step.Step.{Step}
 use Rattle.cd_grammar.specs.Reading.{Reading}
-use Rattle.cd_machine.specs.State.{Values}
+use Rattle.cd_automaton.specs.State.{Values}
 use Rattle.cd_parser.specs.Runs.{reads}
 use Rattle.cd_parser.proofs.value.listed.Given as goal
 

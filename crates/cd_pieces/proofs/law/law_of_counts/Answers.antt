@@ -1,4 +1,4 @@
-use Rattle.cd_pieces.specs.CountLaw.{sent-counted, pieces-some}
+use Rattle.cd_pieces.proofs.CountLaw.{sent-counted, pieces-some}
 use Rattle.cd_pieces.proofs.law.law_of_counts.Goals as goal
 
 pub returns-clause-sent : goal.returns-clause-sent

@@ -1,8 +1,8 @@
 use Rattle.std.proofs.Common.{◌≡◌, ◌≤◌, true, false, sym, subst}
-use Rattle.cd_status.specs.Processes.{latest}
-use Rattle.cd_legal.specs.Legal.{is_legal}
-use Rattle.cd_legal.specs.Promises.{HavePriorities}
-use Rattle.cd_moves.specs.Node.{Desk}
+use Rattle.cd_rules.specs.Processes.{latest}
+use Rattle.cd_rules.specs.Legal.{is_legal}
+use Rattle.cd_rules.specs.Promises.{HavePriorities}
+use Rattle.cd_protocol.specs.Node.{NodeView}
 use Rattle.cd_plain.proofs.Due.{choice_is, taken_is, placing_may}
 use Rattle.cd_plain.proofs.law.law_of_choice.Goals as goal
 
@@ -15,6 +15,6 @@ returns-clause-taking c = taken_is
 pub returns-clause-placing : goal.returns-clause-placing
 returns-clause-placing c = λ read state node last now row e priorities legal early rising is due placing.
     placing_may read state node last now row e rising is
-    (c.law_of_rows.ensures.choose node (subst (λ (d : Desk). HavePriorities d.config.read) (sym is.desk) priorities) 0 now node.sessions false
-    (subst (λ (d : Desk). is_legal d.config.read d.journal ≡ true) (sym is.desk) legal) (subst (λ (d : Desk). latest d.journal ≤ now) (sym is.desk) early))
+    (c.law_of_rows.ensures.choose node (subst (λ (d : NodeView). HavePriorities d.config.read) (sym is.view) priorities) 0 now node.sessions false
+    (subst (λ (d : NodeView). is_legal d.config.read d.journal ≡ true) (sym is.view) legal) (subst (λ (d : NodeView). latest d.journal ≤ now) (sym is.view) early))
     due placing

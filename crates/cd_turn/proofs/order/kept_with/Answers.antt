@@ -1,7 +1,7 @@
 use Rattle.std.proofs.Common.{◌≡◌, true, List, ℕ, Some, ap, sym, subst, ◌∙◌}
 use Rattle.cd_ast.specs.Canonical.{canonical}
 use Rattle.cd_ast.specs.declared.process.Process.{Process}
-use Rattle.cd_filing.specs.Filing.{with_options, filled, filed, is_push}
+use Rattle.cd_submission.specs.Filing.{with_options, filled, filed, is_push}
 use Rattle.cd_turn.specs.Order.{IsKept}
 use Rattle.cd_turn.proofs.Submissions.{kept_formed}
 use Rattle.cd_turn.proofs.order.kept_with.Goals as goal

@@ -1,8 +1,8 @@
-use Rattle.cd_world.specs.AgreedLaw.{events_results, events_land}
-use Rattle.cd_world.specs.GrownLaw.{events_legal, events_extend}
-use Rattle.cd_world.specs.LeftLaw.{events_files, events_left}
-use Rattle.cd_world.specs.StatedLaw.{events_statements, events_copied}
-use Rattle.cd_world.specs.WholeLaw.{events_sources}
+use Rattle.cd_world.proofs.AgreedLaw.{events_results, events_land}
+use Rattle.cd_world.proofs.GrownLaw.{events_legal, events_extend}
+use Rattle.cd_world.proofs.LeftLaw.{events_files, events_left}
+use Rattle.cd_world.proofs.StatedLaw.{events_statements, events_copied}
+use Rattle.cd_world.proofs.WholeLaw.{events_sources}
 use Rattle.cd_world.proofs.law.law_of_events.Goals as goal
 
 pub returns-clause-legal : goal.returns-clause-legal

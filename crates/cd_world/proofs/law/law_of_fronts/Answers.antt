@@ -1,4 +1,4 @@
-use Rattle.cd_world.specs.GuardsLaw.{front_image, front_settled, front_after, front_within, front_written, front_landed}
+use Rattle.cd_world.proofs.GuardsLaw.{front_image, front_settled, front_after, front_within, front_written, front_landed}
 use Rattle.cd_world.proofs.law.law_of_fronts.Goals as goal
 
 pub returns-clause-image : goal.returns-clause-image

@@ -4,16 +4,16 @@ use Rattle.std.specs.Str.{bytes_eq}
 use Rattle.std.proofs.lemmas.Bool.{false≢true}
 use Rattle.cd_ast.specs.Walk.{action_from, code_at, eif_from, else_from, label_from, path_from, pending_from}
 use Rattle.cd_ast.specs.declared.process.Process.{Process}
-use Rattle.cd_status.specs.Keys.{same_key}
-use Rattle.cd_status.specs.Openings.{openings}
-use Rattle.cd_status.specs.Processes.{own_home, submission, submitted, made_for, is_live, live_numbers, ended, latest, is_forgotten}
-use Rattle.cd_status.specs.Queue.{placing}
-use Rattle.cd_status.specs.Status.{status, outcome, mark}
-use Rattle.cd_legal.specs.Legal.{allowed}
-use Rattle.cd_legal.specs.Promises.{HavePriorities}
-use Rattle.cd_moves.specs.Rows.{is_formed, is_sendable, all_parts}
+use Rattle.cd_rules.specs.Keys.{same_key}
+use Rattle.cd_rules.specs.Openings.{openings}
+use Rattle.cd_rules.specs.Processes.{own_home, submission, submitted, made_for, is_live, live_numbers, ended, latest, is_forgotten}
+use Rattle.cd_rules.specs.Queue.{placing}
+use Rattle.cd_rules.specs.Status.{status, outcome, mark}
+use Rattle.cd_rules.specs.Legal.{allowed}
+use Rattle.cd_rules.specs.Promises.{HavePriorities}
+use Rattle.cd_protocol.specs.Rows.{is_formed, is_sendable, all_reactions}
 use Rattle.cd_frames.specs.Frame.{is_abort}
-use Rattle.cd_moves.specs.Worked.{worked_process}
+use Rattle.cd_protocol.specs.Worked.{worked_process}
 use Rattle.cd_types.specs.Choices.{is_kept}
 use Rattle.std.specs.Str.{is_utf8, chars}
 use lib.Utf8.{encode}
@@ -41,28 +41,28 @@ returns-clause-first c = record {
 }
 
 pub returns-clause-possible : goal.returns-clause-possible
-unfolding same_key status outcome mark own_home submission submitted made_for is_live live_numbers ended latest is_forgotten openings placing allowed action_from code_at eif_from else_from label_from path_from pending_from is_formed is_sendable is_abort is_kept is_utf8 chars encode all_parts AllTold
+unfolding same_key status outcome mark own_home submission submitted made_for is_live live_numbers ended latest is_forgotten openings placing allowed action_from code_at eif_from else_from label_from path_from pending_from is_formed is_sendable is_abort is_kept is_utf8 chars encode all_reactions AllTold
 returns-clause-possible c = (
   tt,
   (tt, (tt, ((tt, tt), ((tt, (refl, (tt, tt))), ((refl, (tt, tt)), ((refl, (tt, tt)), ((tt, tt), ((tt, tt), ((tt, tt), ((tt, (tt, tt)), ((tt, tt), ((tt, tt), tt)))))))))))),
 )
 
 pub returns-clause-ended_is : goal.returns-clause-ended_is
-unfolding same_key status outcome mark own_home submission submitted made_for is_live live_numbers ended latest is_forgotten openings placing allowed action_from code_at eif_from else_from label_from path_from pending_from is_formed is_sendable is_abort is_kept is_utf8 chars encode all_parts AllTold
+unfolding same_key status outcome mark own_home submission submitted made_for is_live live_numbers ended latest is_forgotten openings placing allowed action_from code_at eif_from else_from label_from path_from pending_from is_formed is_sendable is_abort is_kept is_utf8 chars encode all_reactions AllTold
 returns-clause-ended_is c = refl
 
 pub returns-clause-landed : goal.returns-clause-landed
-unfolding same_key status outcome mark own_home submission submitted made_for is_live live_numbers ended latest is_forgotten openings placing allowed action_from code_at eif_from else_from label_from path_from pending_from is_formed is_sendable is_abort is_kept is_utf8 chars encode all_parts AllTold
+unfolding same_key status outcome mark own_home submission submitted made_for is_live live_numbers ended latest is_forgotten openings placing allowed action_from code_at eif_from else_from label_from path_from pending_from is_formed is_sendable is_abort is_kept is_utf8 chars encode all_reactions AllTold
 returns-clause-landed c = refl
 
 pub returns-clause-noted : goal.returns-clause-noted
-unfolding same_key status outcome mark own_home submission submitted made_for is_live live_numbers ended latest is_forgotten openings placing allowed action_from code_at eif_from else_from label_from path_from pending_from is_formed is_sendable is_abort is_kept is_utf8 chars encode all_parts AllTold
+unfolding same_key status outcome mark own_home submission submitted made_for is_live live_numbers ended latest is_forgotten openings placing allowed action_from code_at eif_from else_from label_from path_from pending_from is_formed is_sendable is_abort is_kept is_utf8 chars encode all_reactions AllTold
 returns-clause-noted c = refl
 
 pub returns-clause-file : goal.returns-clause-file
-unfolding same_key status outcome mark own_home submission submitted made_for is_live live_numbers ended latest is_forgotten openings placing allowed action_from code_at eif_from else_from label_from path_from pending_from is_formed is_sendable is_abort is_kept is_utf8 chars encode all_parts AllTold
+unfolding same_key status outcome mark own_home submission submitted made_for is_live live_numbers ended latest is_forgotten openings placing allowed action_from code_at eif_from else_from label_from path_from pending_from is_formed is_sendable is_abort is_kept is_utf8 chars encode all_reactions AllTold
 returns-clause-file c = refl
 
 pub returns-clause-left : goal.returns-clause-left
-unfolding same_key status outcome mark own_home submission submitted made_for is_live live_numbers ended latest is_forgotten openings placing allowed action_from code_at eif_from else_from label_from path_from pending_from is_formed is_sendable is_abort is_kept is_utf8 chars encode all_parts AllTold
+unfolding same_key status outcome mark own_home submission submitted made_for is_live live_numbers ended latest is_forgotten openings placing allowed action_from code_at eif_from else_from label_from path_from pending_from is_formed is_sendable is_abort is_kept is_utf8 chars encode all_reactions AllTold
 returns-clause-left c = refl

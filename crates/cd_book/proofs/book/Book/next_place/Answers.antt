@@ -1,8 +1,8 @@
 use Rattle.std.proofs.Common.{Option, ap}
 use Rattle.cd_ast.specs.Walk.{pending, pending_from}
 use Rattle.cd_ast.specs.declared.process.Process.{Process}
-use Rattle.cd_status.specs.Processes.{ended}
-use Rattle.cd_legal.specs.Steps.{stmts_in}
+use Rattle.cd_rules.specs.Processes.{ended}
+use Rattle.cd_rules.specs.Steps.{stmts_in}
 use Rattle.cd_book.proofs.book.Book.next_place.Goals as goal
 
 pub returns-in-None : goal.returns-in-None

@@ -1,7 +1,7 @@
 use Rattle.std.proofs.Common.{◌≤◌, ◌-◌, leb, reverse, ap, ◌∙◌}
 use Rattle.std.specs.Prelude.{slice_get}
 use Rattle.std.proofs.lemmas.Bool.{and_parts, leb-true}
-use Rattle.cd_legal.specs.Steps.{process_of}
+use Rattle.cd_rules.specs.Steps.{process_of}
 use Rattle.cd_book.specs.Book.{BookState}
 use Rattle.cd_book.proofs.Kept.{nth_process}
 use Rattle.cd_book.proofs.book.Book.process.Goals as goal

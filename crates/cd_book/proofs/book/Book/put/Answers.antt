@@ -2,7 +2,7 @@ use Rattle.std.proofs.Common.{◌≡◌, true, ◌&&◌, ltb, List, [], ◌∷�
 use Rattle.std.proofs.lemmas.Bool.{and_parts, ltb-true}
 use Rattle.std.proofs.lemmas.List.{reverse-append}
 use Rattle.cd_entries.specs.declared.entry.Entry.{Entry}
-use Rattle.cd_legal.specs.Legal.{allowed}
+use Rattle.cd_rules.specs.Legal.{allowed}
 use Rattle.cd_book.specs.Book.{BookState, AreKept}
 use Rattle.cd_book.proofs.Kept.{kept_more}
 use Rattle.cd_book.proofs.book.Book.put.Goals as goal

@@ -1,7 +1,7 @@
 use Rattle.std.proofs.Common.{List, subst, sym}
-use Rattle.cd_script.specs.Script.{Order}
-use Rattle.cd_script.specs.Seen.{seen_order}
-use Rattle.cd_script.specs.declared.order.Numbered.{Numbered}
+use Rattle.cd_drill_script.specs.Script.{Order}
+use Rattle.cd_drill_script.specs.Seen.{seen_order}
+use Rattle.cd_drill_script.specs.declared.order.Numbered.{Numbered}
 use Rattle.cd_drill.specs.Course.{Ran, begun, done}
 use Rattle.cd_drill.proofs.Lists.{one_more_at}
 use Rattle.cd_drill.proofs.course.Course.run.Goals as goal

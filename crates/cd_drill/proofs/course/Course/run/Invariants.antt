@@ -1,6 +1,6 @@
 use Rattle.std.proofs.Common.{take}
 use Rattle.std.specs.Prelude.{map, reverse}
-use Rattle.cd_script.specs.Seen.{seen_order}
+use Rattle.cd_drill_script.specs.Seen.{seen_order}
 use Rattle.cd_drill.specs.Course.{Ran}
 use Rattle.cd_drill.specs.Pairs.{AreAtRest}
 use Rattle.cd_drill.proofs.course.Course.run.Given as goal

@@ -1,5 +1,5 @@
 use Rattle.std.proofs.Common.{◌-◌, ◌≤◌, drop, length, sym, arith, length-take}
-use Rattle.cd_frames.specs.StreamLaw.{number_front}
+use Rattle.cd_frames.proofs.StreamLaw.{number_front}
 use Rattle.cd_frames.proofs.Fronts.{form_writable, short_frame}
 use Rattle.cd_frames.proofs.reader.Reader.frame.Goals as goal
 

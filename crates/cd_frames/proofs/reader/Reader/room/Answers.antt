@@ -2,7 +2,7 @@ use Rattle.std.proofs.Common.{◌≡◌, ◌-◌, ◌++◌, ◌≤◌, None, len
 use Rattle.std.proofs.lemmas.Slice.{between_to_end}
 use Rattle.cd_frames.specs.Buffer.{between, given_in}
 use Rattle.cd_frames.specs.Reading.{Reading, overwritten}
-use Rattle.cd_frames.specs.StreamLaw.{waits_short}
+use Rattle.cd_frames.proofs.StreamLaw.{waits_short}
 use Rattle.cd_frames.proofs.Buffers.{laid, kept, laid_over}
 use Rattle.cd_frames.proofs.reader.Reader.room.Goals as goal
 

@@ -2,8 +2,8 @@ use Rattle.std.proofs.Common.{◌≡◌, ℕ, ◌<◌, [], ◌∷◌, ◌++◌, 
 use Rattle.std.specs.Prelude.{IfSome}
 use Rattle.cd_outside.specs.Lines.{Traffic, IsFresh, CountsIf, is_no_session}
 use Rattle.cd_outside.specs.declared.sid.Sid.{Sid}
-use Rattle.cd_moves.specs.declared.session.Phase.TheVariants.{Fresh}
-use Rattle.cd_node.specs.declared.session.Session.{Session}
+use Rattle.cd_protocol.specs.declared.session.Phase.TheVariants.{Fresh}
+use Rattle.cd_exchange.specs.declared.session.Session.{Session}
 use Rattle.cd_plain.specs.NodeState.{NodeState, HasSessions}
 use Rattle.cd_plain.proofs.Opening.{opened}
 use Rattle.cd_plain.proofs.Places.{newest_of, rising_later, read_same}
@@ -26,7 +26,7 @@ pub returns-in-Ok-clause-sessions : goal.returns-in-Ok-clause-sessions
 returns-in-Ok-clause-sessions g c =
     let newest = subst (λ (o : Option Sid). IfSome o (λ s. (g.L.Lines.last c.args.lines.now < s.number) × (g.L.Lines.last c.accept.new.self ≡ s.number))) c.in-Ok-Some.field-0-is c.in-Ok-Some.ensures.newest in
     let s : Session = record { sid = c.in-Ok-Some.sid; phase = Fresh } in
-    opened g.L.Lines.told c.args.self.now c.open.new.self (g.L.Lines.traffic c.args.lines.now) (g.L.Lines.traffic c.accept.new.self) (g.L.Lines.last c.args.lines.now) (g.L.Lines.last c.accept.new.self) s c.requires.sessions
+    opened g.L.Lines.observable c.args.self.now c.open.new.self (g.L.Lines.traffic c.args.lines.now) (g.L.Lines.traffic c.accept.new.self) (g.L.Lines.last c.args.lines.now) (g.L.Lines.last c.accept.new.self) s c.requires.sessions
     (newest_of 0 (g.L.Lines.last c.args.lines.now) c.in-Ok-Some.sid.number c.args.self.now.sessions c.requires.sessions.sids newest.0)
     (omega (arith, newest.0)) (omega (arith, newest.1))
     (λ told. ap (λ (t : Traffic). t.taken) (c.accept.ensures.same told))
@@ -36,7 +36,7 @@ returns-in-Ok-clause-sessions g c =
 pub returns-in-Err-open-clause-sessions : goal.returns-in-Err-open-clause-sessions
 returns-in-Err-open-clause-sessions g c =
     let newest = subst (λ (o : Option Sid). IfSome o (λ s. (g.L.Lines.last c.args.lines.now < s.number) × (g.L.Lines.last c.accept.new.self ≡ s.number))) c.in-Ok-Some.field-0-is c.in-Ok-Some.ensures.newest in
-    subst (λ (n : NodeState). HasSessions g.L.Lines.told n (g.L.Lines.traffic c.accept.new.self) (g.L.Lines.last c.accept.new.self)) (sym c.in-Err-open.ensures.err) (record {
+    subst (λ (n : NodeState). HasSessions g.L.Lines.observable n (g.L.Lines.traffic c.accept.new.self) (g.L.Lines.last c.accept.new.self)) (sym c.in-Err-open.ensures.err) (record {
       sids = rising_later 0 (g.L.Lines.last c.args.lines.now) (g.L.Lines.last c.accept.new.self) c.args.self.now.sessions c.requires.sessions.sids (omega (arith, newest.0, newest.1));
       reads = λ told. read_same (g.L.Lines.traffic c.args.lines.now) (g.L.Lines.traffic c.accept.new.self) c.args.self.now.sessions c.args.self.now.readings (ap (λ (t : Traffic). t.taken) (c.accept.ensures.same told)) (c.requires.sessions.reads told);
     })

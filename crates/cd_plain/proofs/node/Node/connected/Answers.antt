@@ -3,20 +3,20 @@ use Rattle.cd_outside.specs.Lines.{Traffic}
 use Rattle.cd_entries.specs.declared.entry.Entry.{Entry}
 use Rattle.cd_frames.specs.Frame.{is_block}
 use Rattle.cd_frames.specs.Reading.{Reading}
-use Rattle.cd_status.specs.Processes.{latest}
-use Rattle.cd_legal.specs.Legal.{is_legal}
-use Rattle.cd_moves.specs.declared.session.Phase.TheVariants.{Gone}
-use Rattle.cd_deeds.specs.Registry.{RegistryState, IsRegistry}
-use Rattle.cd_deeds.specs.declared.fault.Fault.{Fault}
-use Rattle.cd_deeds.specs.declared.fault.Fault.TheVariants as fault
-use Rattle.cd_parts.specs.declared.config.Config.{Config}
+use Rattle.cd_rules.specs.Processes.{latest}
+use Rattle.cd_rules.specs.Legal.{is_legal}
+use Rattle.cd_protocol.specs.declared.session.Phase.TheVariants.{Gone}
+use Rattle.cd_effects.specs.Registry.{RegistryState, IsRegistry}
+use Rattle.cd_effects.specs.declared.fault.Fault.{Fault}
+use Rattle.cd_effects.specs.declared.fault.Fault.TheVariants as fault
+use Rattle.cd_session_rules.specs.declared.config.Config.{Config}
 use Rattle.cd_plain.specs.NodeState.{NodeState, IsReady, IsNewest, HasNewReader}
 use Rattle.cd_plain.proofs.Opening.{opened}
 use Rattle.cd_plain.proofs.node.Node.connected.Goals as goal
 
 pub returns-in-Ok-open-clause-ready : goal.returns-in-Ok-open-clause-ready
 returns-in-Ok-open-clause-ready g c =
-    let ready = subst (λ (n : NodeState). IsReady g.D.Disk.told g.F.Files.told g.L.Lines.told g.T.Texts.read n (g.D.Disk.state c.args.disk.now) (g.F.Files.state c.args.files.now) (g.L.Lines.traffic c.args.lines.now) c.args.beat.now (g.L.Lines.last c.args.lines.now) c.args.now) (sym c.self.view_is) c.requires.ready in
+    let ready = subst (λ (n : NodeState). IsReady g.D.Disk.observable g.F.Files.observable g.L.Lines.observable g.T.Texts.read n (g.D.Disk.state c.args.disk.now) (g.F.Files.state c.args.files.now) (g.L.Lines.traffic c.args.lines.now) c.args.beat.now (g.L.Lines.last c.args.lines.now) c.args.now) (sym c.self.view_is) c.requires.ready in
     let newest = subst (λ (n : NodeState). IsNewest c.args.sid.number n.sessions) (sym c.self.view_is) c.requires.newest in
     let registry = sym c.in-Ok-open.ensures.registry in
     let same = sym c.greet.ensures.same in
@@ -32,7 +32,7 @@ returns-in-Ok-open-clause-ready g c =
         order = c.greet.ensures.order;
       };
       files_order = c.greet.ensures.files_order;
-      sessions = opened g.L.Lines.told (record { registry = c.self.inside.registry; config = c.self.inside.config; sessions = c.self.inside.sessions.items; readings = c.self.inside.readers.items; holdings = c.self.inside.holders }) c.open.new.self
+      sessions = opened g.L.Lines.observable (record { registry = c.self.inside.registry; config = c.self.inside.config; sessions = c.self.inside.sessions.items; readings = c.self.inside.readers.items; holdings = c.self.inside.owners }) c.open.new.self
           (g.L.Lines.traffic c.args.lines.now) (g.L.Lines.traffic c.greet.new.lines) (g.L.Lines.last c.args.lines.now) (g.L.Lines.last c.greet.new.lines) (record { sid = c.args.sid; phase = c.greet.new.phase }) ready.sessions newest from to
           c.greet.ensures.taken (λ told. (c.requires.fresh told).taken) c.in-Ok-open.ensures.opened c.in-Ok-open.ensures.read;
       block = subst (λ (k : Config). is_block k.block ≡ true) (sym c.in-Ok-open.ensures.config) ready.block;
@@ -40,7 +40,7 @@ returns-in-Ok-open-clause-ready g c =
 
 pub returns-in-Ok-place-clause-ready : goal.returns-in-Ok-place-clause-ready
 returns-in-Ok-place-clause-ready g c =
-    let ready = subst (λ (n : NodeState). IsReady g.D.Disk.told g.F.Files.told g.L.Lines.told g.T.Texts.read n (g.D.Disk.state c.args.disk.now) (g.F.Files.state c.args.files.now) (g.L.Lines.traffic c.args.lines.now) c.args.beat.now (g.L.Lines.last c.args.lines.now) c.args.now) (sym c.self.view_is) c.requires.ready in
+    let ready = subst (λ (n : NodeState). IsReady g.D.Disk.observable g.F.Files.observable g.L.Lines.observable g.T.Texts.read n (g.D.Disk.state c.args.disk.now) (g.F.Files.state c.args.files.now) (g.L.Lines.traffic c.args.lines.now) c.args.beat.now (g.L.Lines.last c.args.lines.now) c.args.now) (sym c.self.view_is) c.requires.ready in
     let newest = subst (λ (n : NodeState). IsNewest c.args.sid.number n.sessions) (sym c.self.view_is) c.requires.newest in
     let home = c.in-Ok-place.ensures.home (λ h. let k : ⊥ = cc in k) in
     let kept = c.in-Ok-place.ensures.kept in
@@ -49,7 +49,7 @@ returns-in-Ok-place-clause-ready g c =
     record {
       home = home;
       files_order = λ told. let before = c.greet.ensures.files_order told in let later = c.in-Ok-place.ensures.beat in omega (arith, before, later);
-      sessions = opened g.L.Lines.told (record { registry = c.self.inside.registry; config = c.self.inside.config; sessions = c.self.inside.sessions.items; readings = c.self.inside.readers.items; holdings = c.self.inside.holders }) c.place.new.self
+      sessions = opened g.L.Lines.observable (record { registry = c.self.inside.registry; config = c.self.inside.config; sessions = c.self.inside.sessions.items; readings = c.self.inside.readers.items; holdings = c.self.inside.owners }) c.place.new.self
           (g.L.Lines.traffic c.args.lines.now) (g.L.Lines.traffic c.close.new.self) (g.L.Lines.last c.args.lines.now) (g.L.Lines.last c.close.new.self) (record { sid = c.args.sid; phase = Gone }) ready.sessions newest from to
           (λ told. ap (λ (t : Traffic). t.taken) (c.close.ensures.same told) ∙ c.greet.ensures.taken told) (λ told. (c.requires.fresh told).taken)
           (kept.sessions ∙ c.in-Ok-open-2.ensures.opened)

@@ -1,29 +1,29 @@
 use Rattle.std.proofs.Common.{◌≡◌, inl, inr, ℕ, ◌≤◌, List, Some, Err, refl, sym, ap, subst, ◌∙◌, arith}
 use Rattle.cd_outside.specs.Lines.{Traffic}
 use Rattle.cd_outside.specs.Moments.{Moments}
-use Rattle.cd_moves.specs.Node.{Node}
-use Rattle.cd_moves.specs.Rows.{row_end}
-use Rattle.cd_moves.specs.declared.session.Phase.{Phase}
-use Rattle.cd_deeds.specs.Joint.{JointAt, IsWithin}
-use Rattle.cd_deeds.specs.Stands.{spot}
-use Rattle.cd_node.specs.Going.{IsSo}
-use Rattle.cd_deeds.specs.declared.fault.Fault.{Fault}
-use Rattle.cd_deeds.specs.declared.fault.Fault.TheVariants as fault
-use Rattle.cd_node.specs.declared.session.Session.{Session}
+use Rattle.cd_protocol.specs.Node.{Node}
+use Rattle.cd_protocol.specs.Rows.{row_end}
+use Rattle.cd_protocol.specs.declared.session.Phase.{Phase}
+use Rattle.cd_effects.specs.Joint.{JointAt, IsWithin}
+use Rattle.cd_effects.specs.Stands.{spot}
+use Rattle.cd_exchange.specs.Going.{IsSo}
+use Rattle.cd_effects.specs.declared.fault.Fault.{Fault}
+use Rattle.cd_effects.specs.declared.fault.Fault.TheVariants as fault
+use Rattle.cd_exchange.specs.declared.session.Session.{Session}
 use Rattle.cd_plain.specs.Crash.{LeaveLeaves}
-use Rattle.cd_handling.specs.Handling.{DidEnd, EndStopped}
+use Rattle.cd_exchange.specs.Handling.{DidEnd, EndStopped}
 use Rattle.cd_plain.specs.NodeState.{NodeState, HasSessions, IsReady}
-use Rattle.cd_handling.specs.Setting.{setting_of}
+use Rattle.cd_exchange.specs.Setting.{setting_of}
 use Rattle.cd_plain.specs.Turned.{place_of, told, WasLeft, FailedLeaving}
 use Rattle.cd_plain.specs.declared.handled.Handled.TheVariants as handled
 use Rattle.cd_plain.proofs.Places.{found, rising_at}
-use Rattle.cd_handling.proofs.Taken.{ended_taken, ended_then}
+use Rattle.cd_exchange.proofs.Taken.{ended_taken, ended_then}
 use Rattle.cd_plain.proofs.AfterTurn.{swapped_back, sessions_left}
 use Rattle.cd_plain.proofs.node.Node.leave.Goals as goal
 
 pub on_end-ending-requires-clause-from : goal.on_end-ending-requires-clause-from
 on_end-ending-requires-clause-from g c =
-    let ready = subst (λ (n : NodeState). IsReady g.D.Disk.told g.F.Files.told g.L.Lines.told g.T.Texts.read n (g.D.Disk.state c.args.disk.now) (g.F.Files.state c.args.files.now) (g.L.Lines.traffic c.args.lines.now) c.args.beat.now (g.L.Lines.last c.args.lines.now) c.args.now) (sym c.self.view_is) c.requires.ready in
+    let ready = subst (λ (n : NodeState). IsReady g.D.Disk.observable g.F.Files.observable g.L.Lines.observable g.T.Texts.read n (g.D.Disk.state c.args.disk.now) (g.F.Files.state c.args.files.now) (g.L.Lines.traffic c.args.lines.now) c.args.beat.now (g.L.Lines.last c.args.lines.now) c.args.now) (sym c.self.view_is) c.requires.ready in
     let first = subst (λ (xs : List Session). place_of c.args.sid.number xs ≡ Some c.in-Some.at) c.deref.ensures.value (sym c.in-Some.ensures) in
     let one = found c.self.inside.sessions.items c.in-Some.at c.args.sid.number first in
     let within = rising_at 0 (g.L.Lines.last c.args.lines.now) c.self.inside.sessions.items c.in-Some.at one.session ready.sessions.sids one.is in
@@ -31,7 +31,7 @@ on_end-ending-requires-clause-from g c =
 
 pub on_end-ending-requires-clause-to : goal.on_end-ending-requires-clause-to
 on_end-ending-requires-clause-to g c =
-    let ready = subst (λ (n : NodeState). IsReady g.D.Disk.told g.F.Files.told g.L.Lines.told g.T.Texts.read n (g.D.Disk.state c.args.disk.now) (g.F.Files.state c.args.files.now) (g.L.Lines.traffic c.args.lines.now) c.args.beat.now (g.L.Lines.last c.args.lines.now) c.args.now) (sym c.self.view_is) c.requires.ready in
+    let ready = subst (λ (n : NodeState). IsReady g.D.Disk.observable g.F.Files.observable g.L.Lines.observable g.T.Texts.read n (g.D.Disk.state c.args.disk.now) (g.F.Files.state c.args.files.now) (g.L.Lines.traffic c.args.lines.now) c.args.beat.now (g.L.Lines.last c.args.lines.now) c.args.now) (sym c.self.view_is) c.requires.ready in
     let first = subst (λ (xs : List Session). place_of c.args.sid.number xs ≡ Some c.in-Some.at) c.deref.ensures.value (sym c.in-Some.ensures) in
     let one = found c.self.inside.sessions.items c.in-Some.at c.args.sid.number first in
     let within = rising_at 0 (g.L.Lines.last c.args.lines.now) c.self.inside.sessions.items c.in-Some.at one.session ready.sessions.sids one.is in
@@ -39,7 +39,7 @@ on_end-ending-requires-clause-to g c =
 
 pub close_gone-requires-clause-from : goal.close_gone-requires-clause-from
 close_gone-requires-clause-from g c =
-    let ready = subst (λ (n : NodeState). IsReady g.D.Disk.told g.F.Files.told g.L.Lines.told g.T.Texts.read n (g.D.Disk.state c.args.disk.now) (g.F.Files.state c.args.files.now) (g.L.Lines.traffic c.args.lines.now) c.args.beat.now (g.L.Lines.last c.args.lines.now) c.args.now) (sym c.self.view_is) c.requires.ready in
+    let ready = subst (λ (n : NodeState). IsReady g.D.Disk.observable g.F.Files.observable g.L.Lines.observable g.T.Texts.read n (g.D.Disk.state c.args.disk.now) (g.F.Files.state c.args.files.now) (g.L.Lines.traffic c.args.lines.now) c.args.beat.now (g.L.Lines.last c.args.lines.now) c.args.now) (sym c.self.view_is) c.requires.ready in
     let first = subst (λ (xs : List Session). place_of c.args.sid.number xs ≡ Some c.in-Some.at) c.deref.ensures.value (sym c.in-Some.ensures) in
     let one = found c.self.inside.sessions.items c.in-Some.at c.args.sid.number first in
     let within = rising_at 0 (g.L.Lines.last c.args.lines.now) c.self.inside.sessions.items c.in-Some.at one.session ready.sessions.sids one.is in
@@ -47,7 +47,7 @@ close_gone-requires-clause-from g c =
 
 pub close_gone-requires-clause-to : goal.close_gone-requires-clause-to
 close_gone-requires-clause-to g c =
-    let ready = subst (λ (n : NodeState). IsReady g.D.Disk.told g.F.Files.told g.L.Lines.told g.T.Texts.read n (g.D.Disk.state c.args.disk.now) (g.F.Files.state c.args.files.now) (g.L.Lines.traffic c.args.lines.now) c.args.beat.now (g.L.Lines.last c.args.lines.now) c.args.now) (sym c.self.view_is) c.requires.ready in
+    let ready = subst (λ (n : NodeState). IsReady g.D.Disk.observable g.F.Files.observable g.L.Lines.observable g.T.Texts.read n (g.D.Disk.state c.args.disk.now) (g.F.Files.state c.args.files.now) (g.L.Lines.traffic c.args.lines.now) c.args.beat.now (g.L.Lines.last c.args.lines.now) c.args.now) (sym c.self.view_is) c.requires.ready in
     let first = subst (λ (xs : List Session). place_of c.args.sid.number xs ≡ Some c.in-Some.at) c.deref.ensures.value (sym c.in-Some.ensures) in
     let one = found c.self.inside.sessions.items c.in-Some.at c.args.sid.number first in
     let within = rising_at 0 (g.L.Lines.last c.args.lines.now) c.self.inside.sessions.items c.in-Some.at one.session ready.sessions.sids one.is in
@@ -62,12 +62,12 @@ returns-in-Ok-clause-left g c =
     let s : Session = one.session in
     let swapped = c.swap_phase-phase.ensures.swapped s one.is in
     let second = swapped_back xs c.swap_phase-phase.new.sessions.items c.swap_phase.new.sessions.items at s c.swap_phase.result c.on_end-ending.new.phase one.is swapped.1 c.swap_phase.ensures.swapped in
-    let node : NodeState = record { registry = c.self.inside.registry; config = c.self.inside.config; sessions = xs; readings = c.self.inside.readers.items; holdings = c.self.inside.holders } in
+    let node : NodeState = record { registry = c.self.inside.registry; config = c.self.inside.config; sessions = xs; readings = c.self.inside.readers.items; holdings = c.self.inside.owners } in
     let start = told (g.F.Files.state c.args.files.now).shelf (g.F.Files.faults c.args.files.now) (g.L.Lines.traffic c.args.lines.now) (g.L.Lines.counts c.args.lines.now) in
-    let after : NodeState = record { registry = c.on_end-ending.new.registry; config = c.self.inside.config; sessions = c.swap_phase.new.sessions.items; readings = c.self.inside.readers.items; holdings = c.on_end-ending.new.holders } in
+    let after : NodeState = record { registry = c.on_end-ending.new.registry; config = c.self.inside.config; sessions = c.swap_phase.new.sessions.items; readings = c.self.inside.readers.items; holdings = c.on_end-ending.new.owners } in
     let end = told (g.F.Files.state c.on_end-ending.new.files).shelf (g.F.Files.faults c.on_end-ending.new.files) (g.L.Lines.traffic c.close_gone.new.lines) (g.L.Lines.counts c.close_gone.new.lines) in
-    let last = spot c.on_end-ending.new.registry.entries (g.F.Files.state c.on_end-ending.new.files).shelf c.on_end-ending.new.phase c.on_end-ending.new.holders (g.L.Lines.traffic c.on_end-ending.new.lines) in
-    inl (subst (λ (n : NodeState). WasLeft g.F.Files.told g.L.Lines.told g.T.Texts.read c.args.now c.args.sid (handled.Lost c.args.sid) n after start end) c.self.view_is (record {
+    let last = spot c.on_end-ending.new.registry.entries (g.F.Files.state c.on_end-ending.new.files).shelf c.on_end-ending.new.phase c.on_end-ending.new.owners (g.L.Lines.traffic c.on_end-ending.new.lines) in
+    inl (subst (λ (n : NodeState). WasLeft g.F.Files.observable g.L.Lines.observable g.T.Texts.read c.args.now c.args.sid (handled.Lost c.args.sid) n after start end) c.self.view_is (record {
       at = at;
       session = s;
       phase = c.on_end-ending.new.phase;
@@ -76,15 +76,15 @@ returns-in-Ok-clause-left g c =
       sessions = second;
       readings = refl;
       answered = refl;
-      ended = ended_then g.F.Files.told g.L.Lines.told (setting_of c.self.inside.config) g.T.Texts.read c.args.sid.number c.args.now row_end
-          (spot c.self.inside.registry.entries (g.F.Files.state c.args.files.now).shelf s.phase c.self.inside.holders (g.L.Lines.traffic c.args.lines.now)) last (g.L.Lines.traffic c.close_gone.new.lines) c.close_gone.ensures.same
-          (subst (λ (p : Phase). DidEnd g.F.Files.told g.L.Lines.told (setting_of c.self.inside.config) g.T.Texts.read c.args.sid.number c.args.now row_end
-          (spot c.self.inside.registry.entries (g.F.Files.state c.args.files.now).shelf p c.self.inside.holders (g.L.Lines.traffic c.args.lines.now)) last) swapped.0 c.in-Ok.ensures.done);
+      ended = ended_then g.F.Files.observable g.L.Lines.observable (setting_of c.self.inside.config) g.T.Texts.read c.args.sid.number c.args.now row_end
+          (spot c.self.inside.registry.entries (g.F.Files.state c.args.files.now).shelf s.phase c.self.inside.owners (g.L.Lines.traffic c.args.lines.now)) last (g.L.Lines.traffic c.close_gone.new.lines) c.close_gone.ensures.same
+          (subst (λ (p : Phase). DidEnd g.F.Files.observable g.L.Lines.observable (setting_of c.self.inside.config) g.T.Texts.read c.args.sid.number c.args.now row_end
+          (spot c.self.inside.registry.entries (g.F.Files.state c.args.files.now).shelf p c.self.inside.owners (g.L.Lines.traffic c.args.lines.now)) last) swapped.0 c.in-Ok.ensures.done);
     }))
 
 pub returns-in-Ok-clause-ready : goal.returns-in-Ok-clause-ready
 returns-in-Ok-clause-ready g c =
-    let ready = subst (λ (n : NodeState). IsReady g.D.Disk.told g.F.Files.told g.L.Lines.told g.T.Texts.read n (g.D.Disk.state c.args.disk.now) (g.F.Files.state c.args.files.now) (g.L.Lines.traffic c.args.lines.now) c.args.beat.now (g.L.Lines.last c.args.lines.now) c.args.now) (sym c.self.view_is) c.requires.ready in
+    let ready = subst (λ (n : NodeState). IsReady g.D.Disk.observable g.F.Files.observable g.L.Lines.observable g.T.Texts.read n (g.D.Disk.state c.args.disk.now) (g.F.Files.state c.args.files.now) (g.L.Lines.traffic c.args.lines.now) c.args.beat.now (g.L.Lines.last c.args.lines.now) c.args.now) (sym c.self.view_is) c.requires.ready in
     let xs : List Session = c.self.inside.sessions.items in
     let at : ℕ = c.in-Some.at in
     let first = subst (λ (l : List Session). place_of c.args.sid.number l ≡ Some at) c.deref.ensures.value (sym c.in-Some.ensures) in
@@ -92,10 +92,10 @@ returns-in-Ok-clause-ready g c =
     let s : Session = one.session in
     let swapped = c.swap_phase-phase.ensures.swapped s one.is in
     let second = swapped_back xs c.swap_phase-phase.new.sessions.items c.swap_phase.new.sessions.items at s c.swap_phase.result c.on_end-ending.new.phase one.is swapped.1 c.swap_phase.ensures.swapped in
-    let node : NodeState = record { registry = c.self.inside.registry; config = c.self.inside.config; sessions = xs; readings = c.self.inside.readers.items; holdings = c.self.inside.holders } in
+    let node : NodeState = record { registry = c.self.inside.registry; config = c.self.inside.config; sessions = xs; readings = c.self.inside.readers.items; holdings = c.self.inside.owners } in
     let start = told (g.F.Files.state c.args.files.now).shelf (g.F.Files.faults c.args.files.now) (g.L.Lines.traffic c.args.lines.now) (g.L.Lines.counts c.args.lines.now) in
-    let after : NodeState = record { registry = c.on_end-ending.new.registry; config = c.self.inside.config; sessions = c.swap_phase.new.sessions.items; readings = c.self.inside.readers.items; holdings = c.on_end-ending.new.holders } in
-    let has = subst (λ (n : ℕ). HasSessions g.L.Lines.told node (g.L.Lines.traffic c.args.lines.now) n) (sym (c.close_gone.ensures.last ∙ c.on_end-ending.ensures.last)) ready.sessions in
+    let after : NodeState = record { registry = c.on_end-ending.new.registry; config = c.self.inside.config; sessions = c.swap_phase.new.sessions.items; readings = c.self.inside.readers.items; holdings = c.on_end-ending.new.owners } in
+    let has = subst (λ (n : ℕ). HasSessions g.L.Lines.observable node (g.L.Lines.traffic c.args.lines.now) n) (sym (c.close_gone.ensures.last ∙ c.on_end-ending.ensures.last)) ready.sessions in
     let e = c.in-Ok.ensures in
     record {
       home = record {
@@ -107,11 +107,11 @@ returns-in-Ok-clause-ready g c =
         order = e.order;
       };
       files_order = e.files_order;
-      sessions = sessions_left g.L.Lines.told node after (g.L.Lines.traffic c.args.lines.now) (g.L.Lines.traffic c.close_gone.new.lines) (g.L.Lines.last c.close_gone.new.lines) at s c.on_end-ending.new.phase one.is second refl
+      sessions = sessions_left g.L.Lines.observable node after (g.L.Lines.traffic c.args.lines.now) (g.L.Lines.traffic c.close_gone.new.lines) (g.L.Lines.last c.close_gone.new.lines) at s c.on_end-ending.new.phase one.is second refl
           (λ told. ap (λ (t : Traffic). t.taken) (c.close_gone.ensures.same told)
-          ∙ ended_taken g.F.Files.told g.L.Lines.told (setting_of c.self.inside.config) g.T.Texts.read c.args.sid.number c.args.now row_end
-          (spot c.self.inside.registry.entries (g.F.Files.state c.args.files.now).shelf c.swap_phase-phase.result c.self.inside.holders (g.L.Lines.traffic c.args.lines.now))
-          (spot c.on_end-ending.new.registry.entries (g.F.Files.state c.on_end-ending.new.files).shelf c.on_end-ending.new.phase c.on_end-ending.new.holders (g.L.Lines.traffic c.on_end-ending.new.lines)) e.done told)
+          ∙ ended_taken g.F.Files.observable g.L.Lines.observable (setting_of c.self.inside.config) g.T.Texts.read c.args.sid.number c.args.now row_end
+          (spot c.self.inside.registry.entries (g.F.Files.state c.args.files.now).shelf c.swap_phase-phase.result c.self.inside.owners (g.L.Lines.traffic c.args.lines.now))
+          (spot c.on_end-ending.new.registry.entries (g.F.Files.state c.on_end-ending.new.files).shelf c.on_end-ending.new.phase c.on_end-ending.new.owners (g.L.Lines.traffic c.on_end-ending.new.lines)) e.done told)
           has;
       block = ready.block;
     }
@@ -125,12 +125,12 @@ returns-in-Err-clause-failed g c =
     let s : Session = one.session in
     let swapped = c.swap_phase-phase.ensures.swapped s one.is in
     let second = swapped_back xs c.swap_phase-phase.new.sessions.items c.swap_phase-in-Err.new.sessions.items at s c.swap_phase-in-Err.result c.on_end-ending.new.phase one.is swapped.1 c.swap_phase-in-Err.ensures.swapped in
-    let node : NodeState = record { registry = c.self.inside.registry; config = c.self.inside.config; sessions = xs; readings = c.self.inside.readers.items; holdings = c.self.inside.holders } in
+    let node : NodeState = record { registry = c.self.inside.registry; config = c.self.inside.config; sessions = xs; readings = c.self.inside.readers.items; holdings = c.self.inside.owners } in
     let start = told (g.F.Files.state c.args.files.now).shelf (g.F.Files.faults c.args.files.now) (g.L.Lines.traffic c.args.lines.now) (g.L.Lines.counts c.args.lines.now) in
-    let after : NodeState = record { registry = c.on_end-ending.new.registry; config = c.self.inside.config; sessions = c.swap_phase-in-Err.new.sessions.items; readings = c.self.inside.readers.items; holdings = c.on_end-ending.new.holders } in
+    let after : NodeState = record { registry = c.on_end-ending.new.registry; config = c.self.inside.config; sessions = c.swap_phase-in-Err.new.sessions.items; readings = c.self.inside.readers.items; holdings = c.on_end-ending.new.owners } in
     let end = told (g.F.Files.state c.on_end-ending.new.files).shelf (g.F.Files.faults c.on_end-ending.new.files) (g.L.Lines.traffic c.on_end-ending.new.lines) (g.L.Lines.counts c.on_end-ending.new.lines) in
-    let last = spot c.on_end-ending.new.registry.entries (g.F.Files.state c.on_end-ending.new.files).shelf c.on_end-ending.new.phase c.on_end-ending.new.holders (g.L.Lines.traffic c.on_end-ending.new.lines) in
-    subst (λ (n : NodeState). FailedLeaving g.F.Files.told g.L.Lines.told g.T.Texts.read c.args.now c.args.sid c.in-Err.fault n after start end) c.self.view_is (record {
+    let last = spot c.on_end-ending.new.registry.entries (g.F.Files.state c.on_end-ending.new.files).shelf c.on_end-ending.new.phase c.on_end-ending.new.owners (g.L.Lines.traffic c.on_end-ending.new.lines) in
+    subst (λ (n : NodeState). FailedLeaving g.F.Files.observable g.L.Lines.observable g.T.Texts.read c.args.now c.args.sid c.in-Err.fault n after start end) c.self.view_is (record {
       at = at;
       session = s;
       phase = c.on_end-ending.new.phase;
@@ -138,8 +138,8 @@ returns-in-Err-clause-failed g c =
       stands = one.is;
       sessions = second;
       readings = refl;
-      failed = subst (λ (p : Phase). EndStopped g.F.Files.told g.L.Lines.told (setting_of c.self.inside.config) g.T.Texts.read c.args.sid.number c.args.now row_end c.in-Err.fault
-          (spot c.self.inside.registry.entries (g.F.Files.state c.args.files.now).shelf p c.self.inside.holders (g.L.Lines.traffic c.args.lines.now)) last) swapped.0 c.in-Err.ensures.stopped;
+      failed = subst (λ (p : Phase). EndStopped g.F.Files.observable g.L.Lines.observable (setting_of c.self.inside.config) g.T.Texts.read c.args.sid.number c.args.now row_end c.in-Err.fault
+          (spot c.self.inside.registry.entries (g.F.Files.state c.args.files.now).shelf p c.self.inside.owners (g.L.Lines.traffic c.args.lines.now)) last) swapped.0 c.in-Err.ensures.stopped;
     })
 
 pub returns-in-Err-clause-home : goal.returns-in-Err-clause-home
@@ -164,12 +164,12 @@ returns-in-Ok-clause-crash g c = λ told_disk files_told.
     let s : Session = one.session in
     let swapped = c.swap_phase-phase.ensures.swapped s one.is in
     let start = told (g.F.Files.state c.args.files.now).shelf (g.F.Files.faults c.args.files.now) (g.L.Lines.traffic c.args.lines.now) (g.L.Lines.counts c.args.lines.now) in
-    inr (subst (λ (n : NodeState). LeaveLeaves g.F.Files.told g.T.Texts.read c.args.now c.args.sid n start (JointAt (g.D.Disk.state c.args.disk.now) (g.F.Files.state c.args.files.now)) (JointAt (g.D.Disk.state c.on_end-ending.new.disk) (g.F.Files.state c.on_end-ending.new.files)) c.args.beat.now) c.self.view_is (record {
+    inr (subst (λ (n : NodeState). LeaveLeaves g.F.Files.observable g.T.Texts.read c.args.now c.args.sid n start (JointAt (g.D.Disk.state c.args.disk.now) (g.F.Files.state c.args.files.now)) (JointAt (g.D.Disk.state c.on_end-ending.new.disk) (g.F.Files.state c.on_end-ending.new.files)) c.args.beat.now) c.self.view_is (record {
       at = at;
       session = s;
       open_at = first;
       stands = one.is;
-      moments = subst (λ (p : Phase). (n : Node) → IsSo g.F.Files.told (setting_of c.self.inside.config) g.T.Texts.read c.args.sid.number n (spot c.self.inside.registry.entries (g.F.Files.state c.args.files.now).shelf p c.self.inside.holders (g.L.Lines.traffic c.args.lines.now))
+      moments = subst (λ (p : Phase). (n : Node) → IsSo g.F.Files.observable (setting_of c.self.inside.config) g.T.Texts.read c.args.sid.number n (spot c.self.inside.registry.entries (g.F.Files.state c.args.files.now).shelf p c.self.inside.owners (g.L.Lines.traffic c.args.lines.now))
           → Moments (JointAt (g.D.Disk.state c.args.disk.now) (g.F.Files.state c.args.files.now)) (JointAt (g.D.Disk.state c.on_end-ending.new.disk) (g.F.Files.state c.on_end-ending.new.files)) c.args.beat.now (IsWithin c.args.sid.number (row_end n c.args.sid.number c.args.now) n)) swapped.0
           (c.on_end-ending.ensures.moments told_disk files_told);
     }))
@@ -183,12 +183,12 @@ returns-in-Err-clause-crash g c = λ told_disk files_told.
     let s : Session = one.session in
     let swapped = c.swap_phase-phase.ensures.swapped s one.is in
     let start = told (g.F.Files.state c.args.files.now).shelf (g.F.Files.faults c.args.files.now) (g.L.Lines.traffic c.args.lines.now) (g.L.Lines.counts c.args.lines.now) in
-    inr (subst (λ (n : NodeState). LeaveLeaves g.F.Files.told g.T.Texts.read c.args.now c.args.sid n start (JointAt (g.D.Disk.state c.args.disk.now) (g.F.Files.state c.args.files.now)) (JointAt (g.D.Disk.state c.on_end-ending.new.disk) (g.F.Files.state c.on_end-ending.new.files)) c.args.beat.now) c.self.view_is (record {
+    inr (subst (λ (n : NodeState). LeaveLeaves g.F.Files.observable g.T.Texts.read c.args.now c.args.sid n start (JointAt (g.D.Disk.state c.args.disk.now) (g.F.Files.state c.args.files.now)) (JointAt (g.D.Disk.state c.on_end-ending.new.disk) (g.F.Files.state c.on_end-ending.new.files)) c.args.beat.now) c.self.view_is (record {
       at = at;
       session = s;
       open_at = first;
       stands = one.is;
-      moments = subst (λ (p : Phase). (n : Node) → IsSo g.F.Files.told (setting_of c.self.inside.config) g.T.Texts.read c.args.sid.number n (spot c.self.inside.registry.entries (g.F.Files.state c.args.files.now).shelf p c.self.inside.holders (g.L.Lines.traffic c.args.lines.now))
+      moments = subst (λ (p : Phase). (n : Node) → IsSo g.F.Files.observable (setting_of c.self.inside.config) g.T.Texts.read c.args.sid.number n (spot c.self.inside.registry.entries (g.F.Files.state c.args.files.now).shelf p c.self.inside.owners (g.L.Lines.traffic c.args.lines.now))
           → Moments (JointAt (g.D.Disk.state c.args.disk.now) (g.F.Files.state c.args.files.now)) (JointAt (g.D.Disk.state c.on_end-ending.new.disk) (g.F.Files.state c.on_end-ending.new.files)) c.args.beat.now (IsWithin c.args.sid.number (row_end n c.args.sid.number c.args.now) n)) swapped.0
           (c.on_end-ending.ensures.moments told_disk files_told);
     }))

@@ -1,7 +1,7 @@
 use Rattle.std.proofs.Common.{◌≡◌, subst, ◌∙◌}
 use Rattle.cd_outside.specs.Disk.{LeftAt}
 use Rattle.cd_outside.specs.Moments.{Moments}
-use Rattle.cd_deeds.specs.Registry.{IsWithOrWithout}
+use Rattle.cd_effects.specs.Registry.{IsWithOrWithout}
 use Rattle.cd_plain.specs.NodeState.{NodeState}
 use Rattle.cd_plain.proofs.node.Node.record.Goals as goal
 use Rattle.cd_plain.proofs.node.Node.record.Goals.{in-Ok, in-Err}

@@ -12,8 +12,8 @@ invariant-loop-i g l = record {
   legal : IsLegal l.self.entries;
   kept : KeepsList l.fn.self.journal l.self.journal;
   sound : l.self.journal.sound ≡ l.fn.self.journal.sound;
-  same : g.P.Disk.told → g.P.Disk.state l.disk ≡ g.P.Disk.state l.fn.disk;
-  read : g.P.Disk.told → IfOk (list_of (g.P.Disk.state l.fn.disk).seen) (λ bodies. take l.i bodies ≡ map entry_bytes l.self.entries);
-  place : g.P.Disk.told → l.at ≡ place_behind (map entry_bytes l.self.entries);
+  same : g.P.Disk.observable → g.P.Disk.state l.disk ≡ g.P.Disk.state l.fn.disk;
+  read : g.P.Disk.observable → IfOk (list_of (g.P.Disk.state l.fn.disk).seen) (λ bodies. take l.i bodies ≡ map entry_bytes l.self.entries);
+  place : g.P.Disk.observable → l.at ≡ place_behind (map entry_bytes l.self.entries);
   later : g.P.Disk.faults l.fn.disk ≤ g.P.Disk.faults l.disk;
 }

@@ -2,7 +2,7 @@ use Rattle.std.proofs.Common.{◌≡◌, ◌∷◌, ◌++◌, [], List, ℕ, map
 use Rattle.std.proofs.lemmas.List.{map_push}
 use Rattle.cd_entries.specs.declared.entry.Entry.{Entry}
 use Rattle.cd_entries.specs.Entry.{entry_bytes}
-use Rattle.cd_entries.specs.EntryLaw.{entry_only}
+use Rattle.cd_entries.proofs.EntryLaw.{entry_only}
 use Rattle.cd_turn.specs.Home.{HomeState}
 use Rattle.cd_turn.specs.Legal.{IsLegal}
 use Rattle.cd_turn.proofs.Legality.{legal_push}

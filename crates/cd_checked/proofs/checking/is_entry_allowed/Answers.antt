@@ -1,5 +1,0 @@
-use Rattle.cd_checked.proofs.One.{kept_other, no_process}
-use Rattle.cd_checked.proofs.checking.is_entry_allowed.Goals as goal
-
-pub may_record-requires : goal.may_record-requires
-may_record-requires g c = no_process g.T.Texts.read c.in-Some.entry.now (kept_other c.args.deeds.now c.in-Some.entry.now c.requires c.in-Some.ensures)

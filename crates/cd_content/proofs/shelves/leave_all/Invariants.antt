@@ -1,7 +1,0 @@
-use Rattle.std.proofs.Common.{◌≡◌, ◌++◌, take, drop}
-use Rattle.std.specs.Prelude.{map}
-use Rattle.cd_content.specs.Left.{left_slot}
-use Rattle.cd_content.proofs.shelves.leave_all.Given as goal
-
-abbrev pub invariant-loop-slot : goal.invariant-loop-slot
-invariant-loop-slot l = l.slots ≡ map (left_slot l.image) (take l.slot-index l.fn.slots) ++ drop l.slot-index l.fn.slots

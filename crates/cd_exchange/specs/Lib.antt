@@ -1,0 +1,9 @@
+pub mod Arriving
+pub mod Crash
+pub mod Handling
+pub mod Setting
+pub mod Turn
+pub mod Going
+pub mod Question
+pub mod Rest
+pub mod Sessions

@@ -1,4 +1,0 @@
-pub mod Intervals
-pub mod Pushes
-pub mod Cards
-pub mod Kept

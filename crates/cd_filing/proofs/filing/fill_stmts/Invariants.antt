@@ -1,6 +1,0 @@
-use Rattle.std.proofs.Common.{◌≡◌, ◌++◌, map, take, drop}
-use Rattle.cd_filing.specs.Filing.{filled_stmt}
-use Rattle.cd_filing.proofs.filing.fill_stmts.Given as goal
-
-abbrev pub invariant-loop-i : goal.invariant-loop-i
-invariant-loop-i l = l.stmts.items ≡ map filled_stmt (take l.i l.initial.stmts.items) ++ drop l.i l.initial.stmts.items

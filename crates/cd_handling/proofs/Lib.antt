@@ -1,5 +1,0 @@
-pub mod Coming
-mod Crashing
-mod Formed
-mod Recorded
-pub mod Taken

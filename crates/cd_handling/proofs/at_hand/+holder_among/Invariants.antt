@@ -1,5 +1,0 @@
-use Rattle.std.proofs.Common.{length}
-use Rattle.cd_handling.proofs.at_hand.+holder_among.Given as goal
-
-abbrev pub decreases-holder_among : goal.decreases-holder_among
-decreases-holder_among l = length l.holdings.now

@@ -1,5 +1,0 @@
-pub mod Arriving
-pub mod Crash
-pub mod Handling
-pub mod Setting
-pub mod Turn

@@ -1,5 +1,0 @@
-mod Firsts
-mod Converse
-mod Plain
-mod Resolved
-mod Told

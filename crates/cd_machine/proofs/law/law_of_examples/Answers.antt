@@ -1,5 +1,0 @@
-use Rattle.cd_machine.proofs.Examples.{each_leaves}
-use Rattle.cd_machine.proofs.law.law_of_examples.Goals as goal
-
-pub returns : goal.returns
-returns c = each_leaves

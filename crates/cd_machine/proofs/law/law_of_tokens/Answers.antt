@@ -1,5 +1,0 @@
-use Rattle.cd_machine.proofs.Texts.{text_placed}
-use Rattle.cd_machine.proofs.law.law_of_tokens.Goals as goal
-
-pub returns : goal.returns
-returns c = λ text. text_placed text

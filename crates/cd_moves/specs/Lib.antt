@@ -1,9 +1,0 @@
-pub mod Closing
-pub mod Node
-pub mod Promises
-pub mod Receiving
-pub mod Rows
-pub mod RowsLaw
-pub mod Seen
-pub mod Sending
-pub mod Worked

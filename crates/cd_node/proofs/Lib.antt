@@ -1,5 +1,0 @@
-mod Crash
-mod Ends
-mod FirstPart
-mod Parts
-mod Way

@@ -1,8 +1,0 @@
-use Rattle.std.proofs.Common.{sym, arith}
-use Rattle.cd_parts.specs.Within.{open_within}
-use Rattle.cd_parts.proofs.steps.receive.Goals as goal
-
-pub receive_again-requires : goal.receive_again-requires
-receive_again-requires g c =
-    let within = open_within g.T.Texts.read c.args.desk.now.book.now.entries c.args.key.now c.in-Open.receiving.now c.in-Open.safe c.requires (sym c.in-Open.ensures) in
-    omega (arith, within.whole, within.mark)

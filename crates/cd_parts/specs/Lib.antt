@@ -1,4 +1,0 @@
-pub mod Desk
-pub mod Single
-pub mod SingleLaw
-pub mod Within

@@ -1,0 +1,3 @@
+pub mod SingleLaw
+pub mod Within
+mod One

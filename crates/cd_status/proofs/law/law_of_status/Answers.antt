@@ -1,8 +1,0 @@
-use Rattle.cd_status.specs.StatusLaw.{outcome-status, status_says}
-use Rattle.cd_status.proofs.law.law_of_status.Goals as goal
-
-pub returns-clause-ended : goal.returns-clause-ended
-returns-clause-ended c = outcome-status
-
-pub returns-clause-going : goal.returns-clause-going
-returns-clause-going c = status_says

@@ -1,0 +1,5 @@
+pub mod Intervals
+pub mod Pushes
+pub mod Cards
+pub mod Kept
+pub mod OfText

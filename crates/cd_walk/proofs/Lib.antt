@@ -1,0 +1,3 @@
+pub mod SingleStepsLaw
+pub mod StepsLaw
+pub mod WalkLaw
