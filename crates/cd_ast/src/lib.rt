@@ -5,12 +5,10 @@ mod canonical;
 mod fault;
 mod piece;
 mod process;
-mod refusal;
 mod stmts;
 
 pub use canonical::print;
 pub use fault::{FaultName, StartRefusal};
 pub use piece::PieceKind;
 pub use process::{CopyStep, Process, Stmt, SubmitStep, TaskStep, What};
-pub use refusal::Refusal;
 pub use stmts::Stmts;

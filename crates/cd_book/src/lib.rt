@@ -18,6 +18,7 @@ mod walk;
 pub use book::Book;
 pub use process::moment_of;
 pub use queue::queue_at;
+pub use same::{same_bytes, same_key};
 pub use status::Status;
 pub use submission::Submission;
 pub use texts::Texts;

@@ -6,10 +6,11 @@ ghost use Rattle.cd_protocol.specs.Rows.{is_same_key};
 ghost use Rattle.cd_exchange.specs.Sessions.{phase_among, phases_with, sessions_with};
 
 use crate::Session;
+use cd_book::same_key;
 use cd_effects::{Holding, KeyOwners};
 use cd_outside::Sid;
 use cd_protocol::Phase;
-use cd_session_rules::{Sessions, key_under_way, same_key};
+use cd_session_rules::{Sessions, key_under_way};
 use cd_types::Key;
 
 /// The sessions of a node while one of them is at hand: its phase is lent, beside the others.

@@ -7,14 +7,8 @@ ghost use Rattle.cd_rules.specs.Legal.{is_snode_of, is_card_of, says_interval, h
 
 use crate::symbols::are_few;
 use cd_ast::{Process, Stmt, What};
-use cd_book::{Book, Texts};
+use cd_book::{Book, Texts, same_bytes};
 use cd_types::{Filed, Hold, Key, NodeName, ProcNo, Retain};
-
-pub(crate) fn same_bytes(a: &[u8], b: &[u8]) -> bool
-    ensures { result ≡ bytes_eq a.now b.now }
-{
-    a == b
-}
 
 fn hold_code(hold: Hold) -> u8
     ensures { result ≡ hold_code hold }

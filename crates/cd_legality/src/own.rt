@@ -5,9 +5,8 @@ ghost use Rattle.cd_ast.specs.declared.process.What.{What};
 ghost use Rattle.cd_rules.specs.Steps.{is_pnode, pnode_keeps, is_run_of, is_interval, is_pull_of, fits_own};
 ghost use Rattle.cd_legality.specs.Own.{fits_seen};
 
-use crate::filed::same_bytes;
 use cd_ast::What;
-use cd_book::{Book, Texts};
+use cd_book::{Book, Texts, same_bytes};
 use cd_types::{Disp, Key, Receiving, Side, TaskKind};
 
 /// What a book says of the step of a key.

@@ -4,9 +4,8 @@ ghost use Rattle.cd_types.specs.Compound.{flag};
 ghost use Rattle.cd_rules.specs.Legal.{is_resized, may_receive_from, is_base_of, greatest_file, may_receive, may_mark_from, is_dropping, may_drop_from};
 ghost use Rattle.cd_book.specs.Seen.{seen_status};
 
-use crate::filed::same_bytes;
 use crate::own::{disp_code, fits_pull, own_step};
-use cd_book::{Book, Status, Texts};
+use cd_book::{Book, Status, Texts, same_bytes};
 use cd_types::{Cause, Disp, Rc, Receiving};
 
 /// The greatest length of a file.

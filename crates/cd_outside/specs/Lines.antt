@@ -66,6 +66,14 @@ SameEnds before now = (session : ℕ) → now.ends session ≡ before.ends sessi
 abbrev pub SameOtherEnds : ℕ → LineCounts → LineCounts → Type 0
 SameOtherEnds session before now = (other : ℕ) → (session == other) ≡ false → now.ends other ≡ before.ends other
 
+-- the count of faults stays at each session
+abbrev pub SameFaults : LineCounts → LineCounts → Type 0
+SameFaults before now = (session : ℕ) → now.faults session ≡ before.faults session
+
+-- and at each but one: a call on one session never raises the count of another
+abbrev pub SameOtherFaults : ℕ → LineCounts → LineCounts → Type 0
+SameOtherFaults session before now = (other : ℕ) → (session == other) ≡ false → now.faults other ≡ before.faults other
+
 -- the answer that a session ended
 abbrev pub is_end : Result ℕ Failed → Bool
 is_end (Ok n) = n == 0

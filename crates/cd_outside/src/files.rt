@@ -23,17 +23,17 @@ pub trait Files {
 
     /// The length of a file in bytes; `None` where there is no such file.
     fn size(&mut self, name: &[u8]) -> Result<Option<u64>, Failed>
-        ensures same { told → state self.new ≡ state self.old }
-        ensures size { told → IfOk result (λ size. size ≡ option_map length ((state self.old).shelf.seen name.now)) }
+        ensures same { observable → state self.new ≡ state self.old }
+        ensures size { observable → IfOk result (λ size. size ≡ option_map length ((state self.old).shelf.seen name.now)) }
         ensures later { faults self.old ≤ faults self.new }
         ensures cause { OnErr result (Rose (faults self.old) (faults self.new)) };
 
     /// Reads from a place on, to the front of the buffer, and tells how many bytes. They are fewer than the buffer has
     /// only at the file's end. A missing file gives none.
     fn read(&mut self, name: &[u8], at: u64, into: &mut [u8]) -> Result<usize, Failed>
-        ensures same { told → state self.new ≡ state self.old }
+        ensures same { observable → state self.new ≡ state self.old }
         ensures within { IfOk result (λ n. n ≤ length into.old) }
-        ensures bytes { told → IfOk result (λ n. take n into.new ≡ take (length into.old) (drop at (content_of ((state self.old).shelf.seen name.now)))) }
+        ensures bytes { observable → IfOk result (λ n. take n into.new ≡ take (length into.old) (drop at (content_of ((state self.old).shelf.seen name.now)))) }
         ensures later { faults self.old ≤ faults self.new }
         ensures cause { OnErr result (Rose (faults self.old) (faults self.new)) };
 
@@ -46,10 +46,10 @@ pub trait Files {
         bytes: &[u8],
         beat: &mut Beat,
     ) -> Result<(), Failed>
-        requires { told → files_last_of (state self.old).calls ≤ beat.old }
-        ensures done { told → OnOk result (state self.new ≡ files_did (WriteFile name.now at bytes.now) beat.new (state self.old)) }
-        ensures cut_off { told → OnErr result (FilesWereCutOff (WriteFile name.now at bytes.now) beat.old beat.new (state self.old) (state self.new)) }
-        ensures order { told → files_last_of (state self.new).calls ≤ beat.new }
+        requires { observable → files_last_of (state self.old).calls ≤ beat.old }
+        ensures done { observable → OnOk result (state self.new ≡ files_did (WriteFile name.now at bytes.now) beat.new (state self.old)) }
+        ensures cut_off { observable → OnErr result (FilesWereCutOff (WriteFile name.now at bytes.now) beat.old beat.new (state self.old) (state self.new)) }
+        ensures order { observable → files_last_of (state self.new).calls ≤ beat.new }
         ensures beat { beat.new ≡ next beat.old }
         ensures forward { beat.old ≤ beat.new }
         ensures raised { OnOk result (beat.old < beat.new) }
@@ -58,10 +58,10 @@ pub trait Files {
 
     /// Cuts to a length, or makes longer by zeros. A missing file is made.
     fn cut(&mut self, name: &[u8], len: u64, beat: &mut Beat) -> Result<(), Failed>
-        requires { told → files_last_of (state self.old).calls ≤ beat.old }
-        ensures done { told → OnOk result (state self.new ≡ files_did (CutFile name.now len) beat.new (state self.old)) }
-        ensures cut_off { told → OnErr result (FilesWereCutOff (CutFile name.now len) beat.old beat.new (state self.old) (state self.new)) }
-        ensures order { told → files_last_of (state self.new).calls ≤ beat.new }
+        requires { observable → files_last_of (state self.old).calls ≤ beat.old }
+        ensures done { observable → OnOk result (state self.new ≡ files_did (CutFile name.now len) beat.new (state self.old)) }
+        ensures cut_off { observable → OnErr result (FilesWereCutOff (CutFile name.now len) beat.old beat.new (state self.old) (state self.new)) }
+        ensures order { observable → files_last_of (state self.new).calls ≤ beat.new }
         ensures beat { beat.new ≡ next beat.old }
         ensures forward { beat.old ≤ beat.new }
         ensures raised { OnOk result (beat.old < beat.new) }
@@ -71,10 +71,10 @@ pub trait Files {
     /// After it a crash leaves what a read gives of the name, also that it is missing. Where it fails, nothing was
     /// changed.
     fn sync(&mut self, name: &[u8], beat: &mut Beat) -> Result<(), Failed>
-        requires { told → files_last_of (state self.old).calls ≤ beat.old }
-        ensures done { told → OnOk result (state self.new ≡ files_did (SyncFile name.now) beat.new (state self.old)) }
-        ensures same { told → OnErr result (state self.new ≡ state self.old) }
-        ensures order { told → files_last_of (state self.new).calls ≤ beat.new }
+        requires { observable → files_last_of (state self.old).calls ≤ beat.old }
+        ensures done { observable → OnOk result (state self.new ≡ files_did (SyncFile name.now) beat.new (state self.old)) }
+        ensures same { observable → OnErr result (state self.new ≡ state self.old) }
+        ensures order { observable → files_last_of (state self.new).calls ≤ beat.new }
         ensures beat { beat.new ≡ next beat.old }
         ensures forward { beat.old ≤ beat.new }
         ensures raised { OnOk result (beat.old < beat.new) }
@@ -83,10 +83,10 @@ pub trait Files {
 
     /// Removes a file. A missing one is none the less `Ok`.
     fn remove(&mut self, name: &[u8], beat: &mut Beat) -> Result<(), Failed>
-        requires { told → files_last_of (state self.old).calls ≤ beat.old }
-        ensures done { told → OnOk result (state self.new ≡ files_did (RemoveFile name.now) beat.new (state self.old)) }
-        ensures cut_off { told → OnErr result (FilesWereCutOff (RemoveFile name.now) beat.old beat.new (state self.old) (state self.new)) }
-        ensures order { told → files_last_of (state self.new).calls ≤ beat.new }
+        requires { observable → files_last_of (state self.old).calls ≤ beat.old }
+        ensures done { observable → OnOk result (state self.new ≡ files_did (RemoveFile name.now) beat.new (state self.old)) }
+        ensures cut_off { observable → OnErr result (FilesWereCutOff (RemoveFile name.now) beat.old beat.new (state self.old) (state self.new)) }
+        ensures order { observable → files_last_of (state self.new).calls ≤ beat.new }
         ensures beat { beat.new ≡ next beat.old }
         ensures forward { beat.old ≤ beat.new }
         ensures raised { OnOk result (beat.old < beat.new) }
@@ -94,5 +94,5 @@ pub trait Files {
         ensures cause { OnErr result (Rose (faults self.old) (faults self.new)) };
 
     /// What a read gives of a name is one of the files that a crash now may leave of it.
-    ghost seen_is_image: { (files : Self) (name : List ℕ) → told → IsFileImage ((state files).shelf.doubt name) ((state files).shelf.seen name) };
+    ghost seen_is_image: { (files : Self) (name : List ℕ) → observable → IsFileImage ((state files).shelf.doubt name) ((state files).shelf.seen name) };
 }

@@ -1,6 +1,6 @@
 ghost use Rattle.std.specs.Prelude.{◌≡◌, ◌≤◌, ◌<◌, ℕ, length, take, false, IfOk, OnOk, OnErr, IfSome, IfNone};
 ghost use Rattle.cd_outside.specs.Counts.{Rose};
-ghost use Rattle.cd_outside.specs.Lines.{Traffic, IsFresh, took, sent, GaveFront, LineCounts, NeverFell, CountsIf, SameEnds, SameOtherEnds, is_end, is_no_session};
+ghost use Rattle.cd_outside.specs.Lines.{Traffic, IsFresh, took, sent, GaveFront, LineCounts, NeverFell, CountsIf, SameEnds, SameOtherEnds, SameFaults, SameOtherFaults, is_end, is_no_session};
 
 use crate::{Failed, Sid};
 
@@ -33,32 +33,35 @@ pub trait Lines {
 
     /// Waits for connections at a port. Where it is that of the last call, that call's listener is kept.
     fn listen(&mut self, port: u16) -> Result<(), Failed>
-        ensures same { told → traffic self.new ≡ traffic self.old }
+        ensures same { observable → traffic self.new ≡ traffic self.old }
         ensures last { last self.new ≡ last self.old }
         ensures ends { SameEnds (counts self.old) (counts self.new) }
+        ensures faults { SameFaults (counts self.old) (counts self.new) }
         ensures nones { (counts self.new).nones ≡ (counts self.old).nones }
         ensures later { NeverFell (counts self.old) (counts self.new) }
         ensures cause { OnErr result (Rose (counts self.old).accepts (counts self.new).accepts) };
 
     /// Makes a session with the node at an address.
     fn connect(&mut self, host: &[u8], port: u16) -> Result<Sid, ConnectFault>
-        ensures same { told → traffic self.new ≡ traffic self.old }
+        ensures same { observable → traffic self.new ≡ traffic self.old }
         ensures newest { IfOk result (λ sid. (last self.old < sid.number) × (last self.new ≡ sid.number)) }
-        ensures fresh { told → IfOk result (λ sid. IsFresh sid.number (traffic self.new)) }
+        ensures fresh { observable → IfOk result (λ sid. IsFresh sid.number (traffic self.new)) }
         ensures none { OnErr result (last self.new ≡ last self.old) }
         ensures ends { SameEnds (counts self.old) (counts self.new) }
+        ensures faults { SameFaults (counts self.old) (counts self.new) }
         ensures nones { (counts self.new).nones ≡ (counts self.old).nones }
         ensures later { NeverFell (counts self.old) (counts self.new) }
         ensures cause { OnErr result (Rose (counts self.old).connects (counts self.new).connects) };
 
     /// Takes the next session that another node made; `None` where there are no more.
     fn accept(&mut self) -> Result<Option<Sid>, Failed>
-        ensures same { told → traffic self.new ≡ traffic self.old }
+        ensures same { observable → traffic self.new ≡ traffic self.old }
         ensures newest { IfOk result (λ given. IfSome given (λ sid. (last self.old < sid.number) × (last self.new ≡ sid.number))) }
-        ensures fresh { told → IfOk result (λ given. IfSome given (λ sid. IsFresh sid.number (traffic self.new))) }
+        ensures fresh { observable → IfOk result (λ given. IfSome given (λ sid. IsFresh sid.number (traffic self.new))) }
         ensures none { IfOk result (λ given. IfNone given (last self.new ≡ last self.old)) }
         ensures refused { OnErr result (last self.new ≡ last self.old) }
         ensures ends { SameEnds (counts self.old) (counts self.new) }
+        ensures faults { SameFaults (counts self.old) (counts self.new) }
         ensures nones { CountsIf (is_no_session result) (counts self.old).nones (counts self.new).nones }
         ensures later { NeverFell (counts self.old) (counts self.new) }
         ensures cause { OnErr result (Rose (counts self.old).accepts (counts self.new).accepts) };
@@ -70,11 +73,12 @@ pub trait Lines {
         requires to { sid.number ≤ last self.old }
         requires room { 0 < length into.old }
         ensures within { IfOk result (λ n. n ≤ length into.old) }
-        ensures taken { told → IfOk result (λ n. traffic self.new ≡ took sid.number (take n into.new) (traffic self.old)) }
-        ensures none { told → OnErr result (traffic self.new ≡ traffic self.old) }
+        ensures taken { observable → IfOk result (λ n. traffic self.new ≡ took sid.number (take n into.new) (traffic self.old)) }
+        ensures none { observable → OnErr result (traffic self.new ≡ traffic self.old) }
         ensures last { last self.new ≡ last self.old }
         ensures ends { CountsIf (is_end result) ((counts self.old).ends sid.number) ((counts self.new).ends sid.number) }
         ensures other_ends { SameOtherEnds sid.number (counts self.old) (counts self.new) }
+        ensures other_faults { SameOtherFaults sid.number (counts self.old) (counts self.new) }
         ensures nones { (counts self.new).nones ≡ (counts self.old).nones }
         ensures later { NeverFell (counts self.old) (counts self.new) }
         ensures cause { OnErr result (Rose ((counts self.old).faults sid.number) ((counts self.new).faults sid.number)) };
@@ -83,10 +87,11 @@ pub trait Lines {
     fn send(&mut self, sid: Sid, bytes: &[u8]) -> Result<(), Failed>
         requires from { 1 ≤ sid.number }
         requires to { sid.number ≤ last self.old }
-        ensures sent { told → OnOk result (traffic self.new ≡ sent sid.number bytes.now (traffic self.old)) }
-        ensures front { told → OnErr result (GaveFront sid.number bytes.now (traffic self.old) (traffic self.new)) }
+        ensures sent { observable → OnOk result (traffic self.new ≡ sent sid.number bytes.now (traffic self.old)) }
+        ensures front { observable → OnErr result (GaveFront sid.number bytes.now (traffic self.old) (traffic self.new)) }
         ensures last { last self.new ≡ last self.old }
         ensures ends { SameEnds (counts self.old) (counts self.new) }
+        ensures other_faults { SameOtherFaults sid.number (counts self.old) (counts self.new) }
         ensures nones { (counts self.new).nones ≡ (counts self.old).nones }
         ensures later { NeverFell (counts self.old) (counts self.new) }
         ensures cause { OnErr result (Rose ((counts self.old).faults sid.number) ((counts self.new).faults sid.number)) };
@@ -95,9 +100,10 @@ pub trait Lines {
     fn close(&mut self, sid: Sid)
         requires from { 1 ≤ sid.number }
         requires to { sid.number ≤ last self.old }
-        ensures same { told → traffic self.new ≡ traffic self.old }
+        ensures same { observable → traffic self.new ≡ traffic self.old }
         ensures last { last self.new ≡ last self.old }
         ensures other_ends { SameOtherEnds sid.number (counts self.old) (counts self.new) }
+        ensures other_faults { SameOtherFaults sid.number (counts self.old) (counts self.new) }
         ensures nones { (counts self.new).nones ≡ (counts self.old).nones }
         ensures later { NeverFell (counts self.old) (counts self.new) };
 }

@@ -29,14 +29,14 @@ pub trait Spawner {
 
     /// Runs a command and waits for its end.
     fn run(&mut self, command: &[u8]) -> Outcome
-        ensures ran { told → children self.new ≡ with_run command.now result (children self.old) }
+        ensures ran { observable → children self.new ≡ with_run command.now result (children self.old) }
         ensures later { faults self.old ≤ faults self.new }
         ensures cause { OnFailed result (Rose (faults self.old) (faults self.new)) };
 
     /// Starts a command and doesn't wait.
     fn start(&mut self, command: &[u8]) -> Result<(), Failed>
-        ensures started { told → OnOk result (children self.new ≡ with_start command.now (children self.old)) }
-        ensures none { told → OnErr result (children self.new ≡ children self.old) }
+        ensures started { observable → OnOk result (children self.new ≡ with_start command.now (children self.old)) }
+        ensures none { observable → OnErr result (children self.new ≡ children self.old) }
         ensures later { faults self.old ≤ faults self.new }
         ensures cause { OnErr result (Rose (faults self.old) (faults self.new)) };
 }

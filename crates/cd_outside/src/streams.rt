@@ -15,8 +15,8 @@ pub trait Clock {
 
     /// The moment.
     fn now(&mut self) -> Moment
-        ensures moment { told → result ≡ moment self.old }
-        ensures same { told → moment self.new ≡ moment self.old };
+        ensures moment { observable → result ≡ moment self.old }
+        ensures same { observable → moment self.new ≡ moment self.old };
 }
 
 /// Bytes that come in.
@@ -35,9 +35,9 @@ pub trait Source {
     fn read(&mut self, into: &mut [u8]) -> Result<usize, Failed>
         requires { 0 < length into.old }
         ensures within { IfOk result (λ n. n ≤ length into.old) }
-        ensures given { told → IfOk result (λ n. remaining self.old ≡ take n into.new ++ remaining self.new) }
-        ensures end { told → IfOk result (λ n. (n ≡ 0) ↔ (remaining self.old ≡ [])) }
-        ensures none { told → OnErr result (remaining self.new ≡ remaining self.old) }
+        ensures given { observable → IfOk result (λ n. remaining self.old ≡ take n into.new ++ remaining self.new) }
+        ensures end { observable → IfOk result (λ n. (n ≡ 0) ↔ (remaining self.old ≡ [])) }
+        ensures none { observable → OnErr result (remaining self.new ≡ remaining self.old) }
         ensures later { faults self.old ≤ faults self.new }
         ensures cause { OnErr result (Rose (faults self.old) (faults self.new)) };
 }
@@ -55,8 +55,8 @@ pub trait Sink {
 
     /// Writes the bytes. Where it fails, it took a front of them.
     fn write(&mut self, bytes: &[u8]) -> Result<(), Failed>
-        ensures taken { told → OnOk result (taken self.new ≡ taken self.old ++ bytes.now) }
-        ensures front { told → OnErr result (TookFront (taken self.old) bytes.now (taken self.new)) }
+        ensures taken { observable → OnOk result (taken self.new ≡ taken self.old ++ bytes.now) }
+        ensures front { observable → OnErr result (TookFront (taken self.old) bytes.now (taken self.new)) }
         ensures later { faults self.old ≤ faults self.new }
         ensures cause { OnErr result (Rose (faults self.old) (faults self.new)) };
 }

@@ -9,12 +9,10 @@ ghost use Rattle.cd_protocol.specs.Seen.{seen_reaction};
 ghost use Rattle.cd_session_rules.specs.NodeView.{view_of};
 
 use cd_ast::{CopyStep, What};
-use cd_book::Texts;
+use cd_book::{Texts, same_key};
 use cd_frames::Frame;
 use cd_protocol::{Announced, Phase, Reaction, SessionTerms};
-use cd_session_rules::{
-    NodeView, close, copy_name, given_up, gives_up, interval_of, receive, same_key,
-};
+use cd_session_rules::{NodeView, close, copy_name, given_up, gives_up, interval_of, receive};
 use cd_types::{Key, Moment, NoMemory, Side};
 use std::alloc::Global;
 

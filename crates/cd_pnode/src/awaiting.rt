@@ -5,10 +5,10 @@ ghost use Rattle.cd_protocol.specs.Rows.{row_await};
 ghost use Rattle.cd_protocol.specs.Seen.{seen_reaction};
 ghost use Rattle.cd_session_rules.specs.NodeView.{view_of};
 
-use cd_book::Texts;
+use cd_book::{Texts, same_key};
 use cd_frames::Frame;
 use cd_protocol::{Phase, Reaction, SessionTerms, Source};
-use cd_session_rules::{NodeView, close, ended, ready_with, same_key};
+use cd_session_rules::{NodeView, close, ended, ready_with};
 use cd_types::{Key, Moment, NoMemory, Side};
 use std::alloc::Global;
 

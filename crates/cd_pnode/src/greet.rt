@@ -11,12 +11,12 @@ ghost use Rattle.cd_rules.specs.Processes.{submission, own_home};
 ghost use Rattle.cd_rules.specs.Queue.{placing};
 ghost use Rattle.cd_session_rules.specs.NodeView.{view_of, kept};
 
-use cd_book::Texts;
+use cd_book::{Texts, same_bytes};
 use cd_entries::Entry;
 use cd_frames::{Frame, RejectCause, Welcome};
 use cd_protocol::{Continuation, Effect, Phase, Reaction, SessionTerms};
 use cd_session_rules::{
-    NodeView, behind, behind_kept, close, is_running, later, only_one, quietly, same_bytes,
+    NodeView, behind, behind_kept, close, is_running, later, only_one, quietly,
 };
 use cd_types::{Moment, NoMemory, NodeName, Placing, ProcNo, Queue, Reason};
 use std::alloc::Global;
@@ -52,7 +52,6 @@ fn own_terms(
     ensures { result ≡ own_terms (name.now, home) number block welcome.now }
 {
     SessionTerms {
-        partner: welcome.name,
         pnode: *name,
         home,
         number: Some(number),

@@ -114,7 +114,7 @@ place_in n now in_queue why before = entry.Placed n (stands in_queue why before.
 
 -- the session of the PNODE: its keys have the name and home of this node, and the number of the Process
 abbrev pub own_terms : List ℕ × ℕ → ℕ → ℕ → Welcome → SessionTerms
-own_terms own n block w = record { partner = w.name; pnode = own.0; home = own.1; number = Some n; block = min w.block block }
+own_terms own n block w = record { pnode = own.0; home = own.1; number = Some n; block = min w.block block }
 
 -- the partner isn't the one that was called, or doesn't take the session: the Process is held wherever it stands
 abbrev pub held : NodeView → ℕ → ℕ → Option Placing → List Effect
@@ -199,7 +199,7 @@ row_take view now phase role terms came m _ = only (close view now phase)
 abbrev pub welcome : Option (List ℕ × ℕ) → ℕ → Hello → Reaction
 welcome None block h = only (Go Gone [] ∷ [])
 welcome (Some own) block h =
-    only (Go (Ready (record { partner = h.name; pnode = h.name; home = h.home; number = None; block = min h.block block }) None)
+    only (Go (Ready (record { pnode = h.name; home = h.home; number = None; block = min h.block block }) None)
     (message.Welcome (record { name = own.0; home = own.1; block = block }) ∷ []) ∷ [])
 
 abbrev pub row_fresh : NodeView → ℕ → Message → Reaction

@@ -1,11 +1,10 @@
 //! What a session is between two happenings.
 use cd_types::{Bytes, Cause, Disp, Key, NodeName, ProcNo, Side};
 
-/// What holds for a whole session: the partner, the name and home that its keys have, the one number that they have
+/// What holds for a whole session: the name and home that its keys have, the one number that they have
 /// (once a step or a Forget has told it), and the most bytes of a piece.
 #[derive(Clone, Copy, Debug, PartialEq, Eq)]
 pub struct SessionTerms {
-    pub partner: NodeName,
     pub pnode: NodeName,
     pub home: u64,
     pub number: Option<ProcNo>,

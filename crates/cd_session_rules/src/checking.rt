@@ -4,38 +4,18 @@ ghost use Rattle.cd_session_rules.specs.Kept.{allowed_kept, kept_in};
 ghost use Rattle.cd_book.specs.Book.{IsRead};
 ghost use Rattle.cd_protocol.specs.Rows.{is_by, is_formed, may_record, are_allowed, checked};
 ghost use Rattle.cd_protocol.specs.Seen.{seen_effect, seen_reaction};
-ghost use Rattle.cd_rules.specs.Processes.{moment_of};
 ghost use Rattle.cd_session_rules.specs.NodeView.{view_of};
 ghost use Rattle.cd_session_rules.specs.Single.{keeps_one};
 
 use crate::sendable::are_sent;
 use crate::{NodeView, close};
 use cd_ast::Process;
-use cd_book::Texts;
+use cd_book::{Texts, moment_of};
 use cd_entries::Entry;
 use cd_legality::may_follow;
 use cd_protocol::{Effect, Phase, Reaction};
 use cd_types::{Moment, NoMemory, is_file_name};
 use std::alloc::Global;
-
-/// The moment of an entry.
-fn moment_of(entry: &Entry) -> Option<Moment>
-    ensures { result ≡ moment_of entry.now }
-{
-    match entry {
-        Entry::Home(..) => None,
-        Entry::Submitted(_, moment, ..) => Some(*moment),
-        Entry::Placed(_, _, moment) => Some(*moment),
-        Entry::Started(_, _, _, moment) => Some(*moment),
-        Entry::Receiving(_) => None,
-        Entry::Mark(..) => None,
-        Entry::Result(_, _, moment) => Some(*moment),
-        Entry::Ended(_, _, _, _, _, moment) => Some(*moment),
-        Entry::Closed(_, _, moment) => Some(*moment),
-        Entry::Forgot(..) => None,
-        Entry::Dropped(_, _, _, moment) => Some(*moment),
-    }
-}
 
 /// Whether a moment isn't later than now.
 fn is_by(now: Moment, moment: Option<Moment>) -> bool

@@ -2,7 +2,7 @@
 ghost use Rattle.std.specs.Prelude.{◌≡◌, option_map};
 ghost use Rattle.cd_session_rules.specs.NodeView.{seen_waits, partner_in};
 
-use crate::same::same_bytes;
+use cd_book::same_bytes;
 use cd_types::NodeName;
 
 /// How long to wait after a failed connection, in seconds, and how often: first the short time, then the long one.

@@ -29,7 +29,6 @@ pub use receiving::{
     receive_anew, refuse, resume, take_piece, target_known, undo_open,
 };
 pub use rows::{ready_from, ready_with, row_send, row_take};
-pub use same::{same_bytes, same_disp, same_key};
 pub use sending::{
     GREATEST_FILE, copy, ended, finish, interval_of, piece_len, piece_read, push, send_from,
     settled,

@@ -10,8 +10,9 @@ ghost use Rattle.cd_protocol.specs.Sending.{settled};
 
 use crate::copies::copy_name;
 use crate::reaction::{behind, go, later, only_one};
-use crate::same::{same_bytes, same_disp};
+use crate::same::same_disp;
 use crate::sending::{GREATEST_FILE, settled};
+use cd_book::same_bytes;
 use cd_entries::Entry;
 use cd_protocol::{Announced, Continuation, Effect, Outgoing, Phase, Reaction, SessionTerms};
 use cd_types::{Cause, Disp, Key, Moment, NoMemory, Outcomes, Receiving, Side};

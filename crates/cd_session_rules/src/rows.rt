@@ -9,10 +9,9 @@ ghost use Rattle.cd_session_rules.specs.NodeView.{view_of};
 
 use crate::closing::close;
 use crate::receiving::{drop_back, gives_up, is_piece_at, land, take_piece};
-use crate::same::same_key;
 use crate::sending::send_from;
 use crate::view::NodeView;
-use cd_book::{Status, Texts};
+use cd_book::{Status, Texts, same_key};
 use cd_frames::Frame;
 use cd_protocol::{Phase, Reaction, SessionTerms, Source};
 use cd_types::{Key, Moment, NoMemory, Receiving, Side};

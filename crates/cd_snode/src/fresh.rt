@@ -14,10 +14,9 @@ use std::alloc::Global;
 
 /// What holds for a session with the node that says this Hello.
 fn terms_with(block: u32, hello: &Hello) -> SessionTerms
-    ensures { result ≡ record { partner = hello.now.name; pnode = hello.now.name; home = hello.now.home; number = None; block = min hello.now.block block } }
+    ensures { result ≡ record { pnode = hello.now.name; home = hello.now.home; number = None; block = min hello.now.block block } }
 {
     SessionTerms {
-        partner: hello.name,
         pnode: hello.name,
         home: hello.home,
         number: None,

@@ -10,11 +10,11 @@ ghost use Rattle.cd_protocol.specs.Seen.{seen_reaction};
 ghost use Rattle.cd_session_rules.specs.NodeView.{view_of};
 
 use crate::ready::row_ready;
-use cd_book::Texts;
+use cd_book::{Texts, same_key};
 use cd_frames::Frame;
 use cd_protocol::{Outgoing, Phase, Reaction, SessionTerms, Source};
 use cd_session_rules::{
-    GREATEST_FILE, NodeView, Sessions, close, copy_name, go, only_one, ready_from, same_key,
+    GREATEST_FILE, NodeView, Sessions, close, copy_name, go, only_one, ready_from,
 };
 use cd_types::{Bytes, Cause, Key, Moment, NoMemory, Side};
 use std::alloc::Global;

@@ -2,8 +2,8 @@
 ghost use Rattle.std.specs.Prelude.{◌≡◌};
 ghost use Rattle.cd_protocol.specs.Rows.{is_number_of, is_of_terms, with_number};
 
+use cd_book::same_bytes;
 use cd_protocol::SessionTerms;
-use cd_session_rules::same_bytes;
 use cd_types::{Key, ProcNo};
 
 /// Whether a number is that of the session, or the first one that it tells.
@@ -30,7 +30,6 @@ pub(crate) fn with_number(number: ProcNo, terms: &SessionTerms) -> SessionTerms
     ensures { result ≡ with_number number terms.now }
 {
     SessionTerms {
-        partner: terms.partner,
         pnode: terms.pnode,
         home: terms.home,
         number: Some(number),

@@ -8,6 +8,7 @@ mod field;
 mod file_name;
 mod key;
 mod label;
+mod limits;
 mod memory;
 mod moment;
 mod node_name;
@@ -32,6 +33,10 @@ pub use file_name::{
 };
 pub use key::Key;
 pub use label::Label;
+pub use limits::{
+    END_OF_PLACES, GREATEST_NUMBER, LONGEST_COMMAND, LONGEST_FRAME, LONGEST_KEPT_TEXT,
+    LONGEST_PIECE, LONGEST_TASK, LONGEST_TEXT, MOST_LIVE, MOST_STATEMENTS,
+};
 pub use memory::NoMemory;
 pub use moment::Moment;
 pub use node_name::NodeName;
