@@ -122,6 +122,10 @@ impl Files for MemoryFiles {
 
     ghost faults = { λ files. files.tally.faults };
 
+    ghost counted = { Unit {0} };
+
+    ghost calls = { λ files. files.tally.calls };
+
     ghost seen_is_image = { λ files name told. (files.shelves.sound name).image };
 
     fn size(&mut self, name: &[u8]) -> Result<Option<u64>, Failed>
@@ -132,6 +136,7 @@ impl Files for MemoryFiles {
         ensures asked { WasAsked self.old self.new }
         ensures fails { fails_next self.old ≡ true → IsErr result }
         ensures goes { fails_next self.old ≡ false → IsOk result }
+        ensures call { calls_of self.new ≡ next (calls_of self.old) }
     {
         if self.tally.begin() {
             return Err(self.tally.failed());
@@ -152,6 +157,7 @@ impl Files for MemoryFiles {
         ensures asked { WasAsked self.old self.new }
         ensures fails { fails_next self.old ≡ true → IsErr result }
         ensures goes { fails_next self.old ≡ false → IsOk result }
+        ensures call { calls_of self.new ≡ next (calls_of self.old) }
     {
         if self.tally.begin() {
             return Err(self.tally.failed());
@@ -182,6 +188,7 @@ impl Files for MemoryFiles {
         ensures nothing { next_fate self.old beat.old ≡ Nothing → IsErr result × (state_of self.new ≡ state_of self.old) }
         ensures under_way { next_fate self.old beat.old ≡ UnderWay → IsErr result × (is_starved self.new ≡ false → state_of self.new ≡ files_did (WriteFile name.now at bytes.now) beat.new (state_of self.old)) }
         ensures goes { next_fate self.old beat.old ≡ Done → is_starved self.new ≡ false → IsOk result }
+        ensures call { calls_of self.new ≡ next (calls_of self.old) }
     {
         let fails = self.tally.begin();
         let fate = self.stop.fate(beat, fails);
@@ -212,6 +219,7 @@ impl Files for MemoryFiles {
         ensures nothing { next_fate self.old beat.old ≡ Nothing → IsErr result × (state_of self.new ≡ state_of self.old) }
         ensures under_way { next_fate self.old beat.old ≡ UnderWay → IsErr result × (is_starved self.new ≡ false → state_of self.new ≡ files_did (CutFile name.now len) beat.new (state_of self.old)) }
         ensures goes { next_fate self.old beat.old ≡ Done → is_starved self.new ≡ false → IsOk result }
+        ensures call { calls_of self.new ≡ next (calls_of self.old) }
     {
         let fails = self.tally.begin();
         let fate = self.stop.fate(beat, fails);
@@ -242,6 +250,7 @@ impl Files for MemoryFiles {
         ensures nothing { next_fate self.old beat.old ≡ Nothing → IsErr result × (state_of self.new ≡ state_of self.old) }
         ensures under_way { next_fate self.old beat.old ≡ UnderWay → IsErr result × (state_of self.new ≡ state_of self.old) }
         ensures goes { next_fate self.old beat.old ≡ Done → is_starved self.new ≡ false → IsOk result }
+        ensures call { calls_of self.new ≡ next (calls_of self.old) }
     {
         let fails = self.tally.begin();
         match self.stop.fate(beat, fails) {
@@ -268,6 +277,7 @@ impl Files for MemoryFiles {
         ensures nothing { next_fate self.old beat.old ≡ Nothing → IsErr result × (state_of self.new ≡ state_of self.old) }
         ensures under_way { next_fate self.old beat.old ≡ UnderWay → IsErr result × (is_starved self.new ≡ false → state_of self.new ≡ files_did (RemoveFile name.now) beat.new (state_of self.old)) }
         ensures goes { next_fate self.old beat.old ≡ Done → is_starved self.new ≡ false → IsOk result }
+        ensures call { calls_of self.new ≡ next (calls_of self.old) }
     {
         let fails = self.tally.begin();
         let fate = self.stop.fate(beat, fails);

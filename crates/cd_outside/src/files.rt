@@ -21,12 +21,19 @@ pub trait Files {
     /// How often they have failed, up to the greatest u64.
     ghost faults: { Self → ℕ };
 
+    /// They tell how often they were called.
+    ghost counted: { Type 0 };
+
+    /// How often they were called, up to the greatest u64.
+    ghost calls: { Self → ℕ };
+
     /// The length of a file in bytes; `None` where there is no such file.
     fn size(&mut self, name: &[u8]) -> Result<Option<u64>, Failed>
         ensures same { observable → state self.new ≡ state self.old }
         ensures size { observable → IfOk result (λ size. size ≡ option_map length ((state self.old).shelf.seen name.now)) }
         ensures later { faults self.old ≤ faults self.new }
-        ensures cause { OnErr result (Rose (faults self.old) (faults self.new)) };
+        ensures cause { OnErr result (Rose (faults self.old) (faults self.new)) }
+        ensures call { counted → calls self.new ≡ next (calls self.old) };
 
     /// Reads from a place on, to the front of the buffer, and tells how many bytes. They are fewer than the buffer has
     /// only at the file's end. A missing file gives none.
@@ -35,7 +42,8 @@ pub trait Files {
         ensures within { IfOk result (λ n. n ≤ length into.old) }
         ensures bytes { observable → IfOk result (λ n. take n into.new ≡ take (length into.old) (drop at (content_of ((state self.old).shelf.seen name.now)))) }
         ensures later { faults self.old ≤ faults self.new }
-        ensures cause { OnErr result (Rose (faults self.old) (faults self.new)) };
+        ensures cause { OnErr result (Rose (faults self.old) (faults self.new)) }
+        ensures call { counted → calls self.new ≡ next (calls self.old) };
 
     /// Writes over what is there, and past the end. Between the old end and a later place stand zeros. A missing file is
     /// made.
@@ -54,7 +62,8 @@ pub trait Files {
         ensures forward { beat.old ≤ beat.new }
         ensures raised { OnOk result (beat.old < beat.new) }
         ensures later { faults self.old ≤ faults self.new }
-        ensures cause { OnErr result (Rose (faults self.old) (faults self.new)) };
+        ensures cause { OnErr result (Rose (faults self.old) (faults self.new)) }
+        ensures call { counted → calls self.new ≡ next (calls self.old) };
 
     /// Cuts to a length, or makes longer by zeros. A missing file is made.
     fn cut(&mut self, name: &[u8], len: u64, beat: &mut Beat) -> Result<(), Failed>
@@ -66,7 +75,8 @@ pub trait Files {
         ensures forward { beat.old ≤ beat.new }
         ensures raised { OnOk result (beat.old < beat.new) }
         ensures later { faults self.old ≤ faults self.new }
-        ensures cause { OnErr result (Rose (faults self.old) (faults self.new)) };
+        ensures cause { OnErr result (Rose (faults self.old) (faults self.new)) }
+        ensures call { counted → calls self.new ≡ next (calls self.old) };
 
     /// After it a crash leaves what a read gives of the name, also that it is missing. Where it fails, nothing was
     /// changed.
@@ -79,7 +89,8 @@ pub trait Files {
         ensures forward { beat.old ≤ beat.new }
         ensures raised { OnOk result (beat.old < beat.new) }
         ensures later { faults self.old ≤ faults self.new }
-        ensures cause { OnErr result (Rose (faults self.old) (faults self.new)) };
+        ensures cause { OnErr result (Rose (faults self.old) (faults self.new)) }
+        ensures call { counted → calls self.new ≡ next (calls self.old) };
 
     /// Removes a file. A missing one is none the less `Ok`.
     fn remove(&mut self, name: &[u8], beat: &mut Beat) -> Result<(), Failed>
@@ -91,7 +102,8 @@ pub trait Files {
         ensures forward { beat.old ≤ beat.new }
         ensures raised { OnOk result (beat.old < beat.new) }
         ensures later { faults self.old ≤ faults self.new }
-        ensures cause { OnErr result (Rose (faults self.old) (faults self.new)) };
+        ensures cause { OnErr result (Rose (faults self.old) (faults self.new)) }
+        ensures call { counted → calls self.new ≡ next (calls self.old) };
 
     /// What a read gives of a name is one of the files that a crash now may leave of it.
     ghost seen_is_image: { (files : Self) (name : List ℕ) → observable → IsFileImage ((state files).shelf.doubt name) ((state files).shelf.seen name) };
