@@ -8,11 +8,9 @@ ghost use Rattle.cd_drill_script.specs.declared.script.ScriptFault.TheVariants.{
 
 use crate::line::{Reserved, is_skipped, order_of};
 use crate::order::{Numbered, Order};
+use cd_types::LONGEST_COMMAND;
 use std::alloc::{AllocFailed, Global};
 use thiserror::Error;
-
-/// The most bytes of a line.
-const MOST_LINE: usize = 70_000;
 
 /// Why a script isn't read.
 #[derive(Debug, Drop, PartialEq, Eq, Error)]
@@ -70,7 +68,7 @@ fn read_line<'a, R: Reserved>(
         ≡ with_orders (option_to_list (option_map (λ o. (n, seen_order o)) order)) (orders_from R.reserved (at + length line.now + 1) (n + 1) more)) }
     ensures fault { IfErr result (λ fault. (n : ℕ) (more : List (List ℕ)) → IsFaultOf (orders_from R.reserved at n (line.now ∷ more)) fault) }
 {
-    if line.len() > MOST_LINE {
+    if line.len() > LONGEST_COMMAND {
         return Err(ScriptFault::ScriptText(at));
     }
     if is_skipped(line) {

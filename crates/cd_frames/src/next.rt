@@ -8,10 +8,7 @@ ghost use Rattle.cd_frames.specs.Stream.{front_of};
 use crate::frame::{Frame, FrameFault};
 use crate::reader::Reader;
 use crate::reading::frame_of;
-use cd_types::Field;
-
-/// The most bytes behind a frame's length.
-const LONGEST: u32 = 131_072;
+use cd_types::{Field, LONGEST_FRAME};
 
 /// The frame at the front of bytes that begin at this place of the stream, and how many bytes it has; `None` where they are less than
 /// a whole frame.
@@ -23,7 +20,7 @@ fn front_of(place: u64, bytes: &[u8]) -> Result<Option<(Frame<'_>, usize)>, Fram
     let Some((len, rest)) = u32::front(bytes) else {
         return Ok(None);
     };
-    if len > LONGEST {
+    if len > LONGEST_FRAME {
         return Err(FrameFault::TooLong(len));
     }
     let len = len as usize;

@@ -9,7 +9,8 @@ use crate::frame::{Frame, Hello, RejectCause, Welcome};
 use crate::kind;
 use crate::symbols::is_symbols;
 use cd_types::{
-    Cause, Disp, Field, Key, NodeName, Outcomes, ProcNo, TaskKind, file_front, text_front,
+    Cause, Disp, Field, Key, LONGEST_PIECE, LONGEST_TASK, NodeName, Outcomes, ProcNo, TaskKind,
+    file_front, text_front,
 };
 
 /// The frame that the bytes behind a length are, all of them; `None` exactly where they are none.
@@ -53,7 +54,7 @@ fn block_front(bytes: &[u8]) -> Option<(u32, &[u8])>
     ensures { option_map (λ found. (found.0, found.1.now)) result ≡ ranged_in 4 is_block bytes.now }
 {
     let (block, rest) = u32::front(bytes)?;
-    if block >= 1 && block <= 65536 {
+    if block >= 1 && block as usize <= LONGEST_PIECE {
         Some((block, rest))
     } else {
         None
@@ -161,7 +162,7 @@ fn step_copy_from_of(bytes: &[u8]) -> Option<Frame<'_>>
 fn is_command(command: &[u8]) -> bool
     ensures { result ≡ is_command command.now }
 {
-    !command.is_empty() && command.len() <= 32768
+    !command.is_empty() && command.len() <= LONGEST_TASK
 }
 
 #[tactic(auto, unfolding(crate::specs::Frame::step_task_of))]
@@ -247,7 +248,7 @@ fn end_of(bytes: &[u8]) -> Option<Frame<'_>>
 fn is_piece(bytes: &[u8]) -> bool
     ensures { result ≡ is_piece bytes.now }
 {
-    !bytes.is_empty() && bytes.len() <= 65536
+    !bytes.is_empty() && bytes.len() <= LONGEST_PIECE
 }
 
 #[tactic(auto, unfolding(crate::specs::Frame::data_of))]

@@ -9,7 +9,7 @@ ghost use Rattle.cd_grammar.specs.Values.{is_digits, number_of, number_in, node_
 use crate::words::is_word;
 use crate::{Key, Lent};
 use cd_ast::FaultName;
-use cd_types::{Disp, Hold, Label, NodeName, Relation, Retain, is_file_name};
+use cd_types::{Disp, Hold, LONGEST_TASK, Label, NodeName, Relation, Retain, is_file_name};
 
 pub(crate) fn is_digit(byte: u8) -> bool
     ensures { result ≡ is_ascii_digit byte }
@@ -396,5 +396,5 @@ pub fn are_items(text: &[u8]) -> bool
 pub fn is_command(text: &[u8]) -> bool
     ensures { result ≡ is_command text.now }
 {
-    !text.is_empty() && text.len() <= 32_768
+    !text.is_empty() && text.len() <= LONGEST_TASK
 }

@@ -2,9 +2,6 @@
 ghost use Rattle.std.specs.Prelude.{◌≡◌, ◌≤◌, ◌<◌, ◌++◌, ◌∷◌, [], length, IfOk, OnErr, vec_len};
 ghost use Rattle.cd_input.specs.Input.{is_blank, open_after, spot_after, is_open, stays_between};
 
-/// The most bytes that a command may have, its `;` included.
-pub const MAX_COMMAND: usize = 70_000;
-
 /// Where a reader of a text stands.
 #[derive(Clone, Copy, Debug, PartialEq, Eq)]
 pub enum Spot {

@@ -2,8 +2,8 @@ ghost use Rattle.std.specs.Prelude.{◌≡◌, IfOk, OnErr};
 ghost use Rattle.cd_input.specs.Input.{begin, scan_after, is_rest, is_full, end_events, limit_events};
 ghost use Rattle.cd_input.specs.Scanner.{events_of, IsBetween, IsWithin};
 
-use crate::input::{MAX_COMMAND, Spot, stays_between};
-use cd_types::NoMemory;
+use crate::input::{Spot, stays_between};
+use cd_types::{LONGEST_COMMAND, NoMemory};
 use std::alloc::Global;
 use std::marker::Model;
 use std::mem;
@@ -87,7 +87,7 @@ impl Scanner {
         ensures { result ≡ is_full self.now }
     {
         match self.phase {
-            Phase::Within => self.text.len() >= MAX_COMMAND,
+            Phase::Within => self.text.len() >= LONGEST_COMMAND,
             Phase::Between | Phase::Over => false,
         }
     }
@@ -145,7 +145,7 @@ impl Scanner {
         ensures ok { IfOk result (λ found. scan_after self.old byte ≡ (self.new, events_of found)) }
         ensures err { OnErr result (self.new ≡ self.old) }
     {
-        if self.text.len() >= MAX_COMMAND {
+        if self.text.len() >= LONGEST_COMMAND {
             self.phase = Phase::Over;
             return Ok(Some(Found::TooLong));
         }

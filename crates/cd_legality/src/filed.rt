@@ -8,7 +8,9 @@ ghost use Rattle.cd_rules.specs.Legal.{is_snode_of, is_card_of, says_interval, h
 use crate::symbols::are_few;
 use cd_ast::{Process, Stmt, What};
 use cd_book::{Book, Texts, same_bytes};
-use cd_types::{Filed, Hold, Key, NodeName, ProcNo, Retain};
+use cd_types::{
+    Filed, GREATEST_NUMBER, Hold, Key, LONGEST_KEPT_TEXT, MOST_LIVE, NodeName, ProcNo, Retain,
+};
 
 fn hold_code(hold: Hold) -> u8
     ensures { result ≡ hold_code hold }
@@ -110,9 +112,9 @@ pub(crate) fn may_submit<T: Texts>(
     ensures { result ≡ may_submit T.read book.now.entries number origin.now card.now text.now }
 {
     number.number() as u64 == book.submitted() as u64 + 1
-        && number.number() <= 99_999
-        && book.live() < 4096
-        && text.len() <= 200_000
+        && number.number() <= GREATEST_NUMBER
+        && book.live() < MOST_LIVE
+        && text.len() <= LONGEST_KEPT_TEXT
         && is_filed(card, process)
         && is_new_origin(book, origin)
 }

@@ -2,9 +2,7 @@
 ghost use Rattle.std.specs.Prelude.{◌≡◌, ◌++◌, List, ℕ, OnOk, IfErr};
 
 use crate::fault::SymFault;
-
-/// The greatest length of a text whose references are replaced, and of what it becomes, in bytes.
-pub(crate) const LONGEST_TEXT: usize = 65_536;
+use cd_types::LONGEST_TEXT;
 
 /// The bytes put out so far. Once they are too many, they are only counted.
 #[derive(Drop)]

@@ -6,11 +6,11 @@ ghost use Rattle.cd_lexer.specs.Output.{PutsOut, IsStopped, longest_text};
 ghost use Rattle.cd_lexer.specs.Faults.{IsSymFault};
 
 use crate::fault::SymFault;
-use crate::output::{LONGEST_TEXT, Output};
+use crate::output::Output;
 use crate::part::{begins_with, first_part};
 use crate::piece::{Cut, first_piece};
 use cd_ast::PieceKind;
-use cd_types::Symbols;
+use cd_types::{LONGEST_TEXT, Symbols};
 use std::alloc::Global;
 
 /// The value of a name. One of more than 17 bytes has none.

@@ -12,11 +12,8 @@ use cd_canonical::Canonical;
 use cd_commands::{Command, Options};
 use cd_entries::Entry;
 use cd_submission::{filled, with_options};
-use cd_types::{Bytes, Filed, Moment, NoMemory, NodeName, ProcNo};
+use cd_types::{Bytes, Filed, MOST_LIVE, Moment, NoMemory, NodeName, ProcNo};
 use std::alloc::Global;
-
-/// How many Processes may be live.
-const MOST_LIVE: u32 = 4096;
 
 /// An entry that is to be recorded, and what is answered then.
 #[derive(Drop)]

@@ -20,7 +20,9 @@ use crate::late::{sooner, wrong_in, wrong_start};
 use crate::leaf::{too_many, unexpected};
 use cd_ast::{CopyStep, Process, Stmt, Stmts, SubmitStep, TaskStep, What};
 use cd_grammar::{Begun, CopyGiven, Given, Lent, Mark, Sketch, Step, Work};
-use cd_types::{Bytes, Card, Disp, Hold, Label, Relation, Retain, Side, Symbols, TaskKind};
+use cd_types::{
+    Bytes, Card, Disp, Hold, Label, MOST_STATEMENTS, Relation, Retain, Side, Symbols, TaskKind,
+};
 use std::alloc::Global;
 use std::collections::VecDeque;
 use std::marker::Model;
@@ -274,7 +276,7 @@ impl<'a> Reader<'a> {
     pub(crate) fn has_room(&self) -> bool
         ensures { result ≡ has_room strict self.now }
     {
-        self.stmts.len() < 1024
+        self.stmts.len() < MOST_STATEMENTS
     }
 
     /// Whether an IF may begin.

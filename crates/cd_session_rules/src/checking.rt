@@ -14,7 +14,7 @@ use cd_book::{Texts, moment_of};
 use cd_entries::Entry;
 use cd_legality::may_follow;
 use cd_protocol::{Effect, Phase, Reaction};
-use cd_types::{Moment, NoMemory, is_file_name};
+use cd_types::{END_OF_PLACES, Moment, NoMemory, is_file_name};
 use std::alloc::Global;
 
 /// Whether a moment isn't later than now.
@@ -36,16 +36,16 @@ fn is_formed(entry: &Entry) -> bool
         Entry::Home(..) => true,
         Entry::Submitted(..) => true,
         Entry::Placed(_, placed, _) => placed.due < 250_000_000_000,
-        Entry::Started(step, _, _, _) => step.place < 1024,
+        Entry::Started(step, _, _, _) => step.place < END_OF_PLACES,
         Entry::Receiving(receiving) => {
-            receiving.key.place < 1024 && is_file_name(receiving.name.as_slice())
+            receiving.key.place < END_OF_PLACES && is_file_name(receiving.name.as_slice())
         }
-        Entry::Mark(step, _) => step.place < 1024,
-        Entry::Result(step, outcomes, _) => step.place < 1024 && outcomes.cause.is_kept(),
-        Entry::Ended(_, place, _, why, _, _) => *place < 1024 && why.is_kept(),
+        Entry::Mark(step, _) => step.place < END_OF_PLACES,
+        Entry::Result(step, outcomes, _) => step.place < END_OF_PLACES && outcomes.cause.is_kept(),
+        Entry::Ended(_, place, _, why, _, _) => *place < END_OF_PLACES && why.is_kept(),
         Entry::Closed(..) => true,
         Entry::Forgot(..) => true,
-        Entry::Dropped(step, _, why, _) => step.place < 1024 && why.is_kept(),
+        Entry::Dropped(step, _, why, _) => step.place < END_OF_PLACES && why.is_kept(),
     }
 }
 

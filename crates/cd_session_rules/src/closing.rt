@@ -14,7 +14,7 @@ use crate::view::NodeView;
 use cd_book::Texts;
 use cd_entries::Entry;
 use cd_protocol::{Effect, Outgoing, Phase, Reaction};
-use cd_types::{Cause, Moment, NoMemory, Placing, ProcNo, Queue, Reason};
+use cd_types::{Cause, END_OF_PLACES, Moment, NoMemory, Placing, ProcNo, Queue, Reason};
 use std::alloc::Global;
 
 /// The queue of a Process at a moment.
@@ -185,7 +185,7 @@ fn trouble_for<'a>(alloc: Global, phase: &Phase) -> Result<Effect<'a>, NoMemory>
     match key_under_way(phase) {
         None => Ok(quietly(alloc, copy)),
         Some(key) => {
-            if key.place < 1024 {
+            if key.place < END_OF_PLACES {
                 let effect = go(alloc, copy, Outgoing::Abort(key, Cause::Trouble))?;
                 Ok(effect)
             } else {

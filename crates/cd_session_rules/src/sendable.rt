@@ -6,18 +6,18 @@ ghost use Rattle.cd_protocol.specs.Seen.{seen_frame};
 ghost use Rattle.cd_session_rules.specs.Kept.{all_sendable, are_sent};
 
 use cd_protocol::{Effect, Outgoing};
-use cd_types::{Cause, is_file_name};
+use cd_types::{Cause, END_OF_PLACES, LONGEST_PIECE, is_file_name};
 
 fn is_block(block: u32) -> bool
     ensures { result ≡ is_block block }
 {
-    1 <= block && block <= 65536
+    1 <= block && block as usize <= LONGEST_PIECE
 }
 
 fn is_piece(bytes: &[u8]) -> bool
     ensures { result ≡ is_piece bytes.now }
 {
-    1 <= bytes.len() && bytes.len() <= 65536
+    1 <= bytes.len() && bytes.len() <= LONGEST_PIECE
 }
 
 #[tactic(auto, unfolding(cd_frames::specs::Frame::is_abort))]
@@ -39,16 +39,17 @@ fn is_sendable(frame: &Outgoing<'_>) -> bool
         Outgoing::Hello(hello) => is_block(hello.block),
         Outgoing::Welcome(welcome) => is_block(welcome.block),
         Outgoing::StepCopyTo(key, name, _, _, _) => {
-            key.place < 1024 && is_file_name(name.as_slice())
+            key.place < END_OF_PLACES && is_file_name(name.as_slice())
         }
-        Outgoing::StepCopyFrom(key, name, _) => key.place < 1024 && is_file_name(name.as_slice()),
-        Outgoing::Ready(key, _) => key.place < 1024,
-        Outgoing::Length(key, _) => key.place < 1024,
-        Outgoing::Data(key, _, bytes) => key.place < 1024 && is_piece(*bytes),
-        Outgoing::Ack(key, _) => key.place < 1024,
-        Outgoing::End(key, _) => key.place < 1024,
-        Outgoing::Result(key, outcomes) => key.place < 1024 && outcomes.cause.is_kept(),
-        Outgoing::Abort(key, why) => key.place < 1024 && is_abort(*why),
+        Outgoing::StepCopyFrom(key, name, _) => key.place < END_OF_PLACES
+            && is_file_name(name.as_slice()),
+        Outgoing::Ready(key, _) => key.place < END_OF_PLACES,
+        Outgoing::Length(key, _) => key.place < END_OF_PLACES,
+        Outgoing::Data(key, _, bytes) => key.place < END_OF_PLACES && is_piece(*bytes),
+        Outgoing::Ack(key, _) => key.place < END_OF_PLACES,
+        Outgoing::End(key, _) => key.place < END_OF_PLACES,
+        Outgoing::Result(key, outcomes) => key.place < END_OF_PLACES && outcomes.cause.is_kept(),
+        Outgoing::Abort(key, why) => key.place < END_OF_PLACES && is_abort(*why),
         Outgoing::Forget(_, _) => true,
         Outgoing::Bye => true,
     }

@@ -21,15 +21,11 @@ use cd_entries::{Entry, EntryFault, read_entry, write_entry};
 use cd_journal::{Journal, JournalFault};
 use cd_outside::{Beat, Disk};
 use cd_submission::{DEFAULT_INTERVAL, is_push};
-use cd_types::{Card, Filed, Key, Moment, NoMemory, NodeName, ProcNo};
+use cd_types::{
+    Card, Filed, Key, LONGEST_KEPT_TEXT, MOST_LIVE, Moment, NoMemory, NodeName, ProcNo,
+};
 use std::alloc::Global;
 use std::marker::Model;
-
-/// The most Processes that may be live.
-pub const MOST_LIVE: u32 = 4096;
-
-/// The most bytes of a Process's canonical text.
-const LONGEST_TEXT: usize = 200_000;
 
 /// The entries of a journal, which isn't held but handed to each call with its disk. It counts what is asked of them often.
 /// Contracts see the journal and the entries.
@@ -256,7 +252,7 @@ impl Home {
         if moment.seconds() < self.latest {
             return Ok(false);
         }
-        if text.len() > LONGEST_TEXT {
+        if text.len() > LONGEST_KEPT_TEXT {
             return Ok(false);
         }
         if !is_new(&self.entries, origin) {

@@ -15,7 +15,7 @@ ghost use Rattle.cd_turn.specs.Reply.{reply_text};
 ghost use Rattle.cd_turn.specs.Ends.{MayLeave, journal_length, FitsBehind, HasReason, TookAtEnd};
 ghost use Rattle.cd_turn.specs.Turn.{is_named, room_answer, partner_answer, submission_answer, refusal_for, named_answer, answer, submission, submission_with, added, MayKeep};
 
-use crate::home::{Home, MOST_LIVE, card_for};
+use crate::home::{Home, card_for};
 use crate::order::Order;
 use crate::reply::{Refusal, Reply};
 use crate::status::Status;
@@ -24,7 +24,7 @@ use cd_entries::Entry;
 use cd_journal::JournalFault;
 use cd_outside::{Beat, Disk, Sink};
 use cd_submission::Unread;
-use cd_types::{Bytes, Moment, NoMemory, NodeName, ProcNo};
+use cd_types::{Bytes, MOST_LIVE, Moment, NoMemory, NodeName, ProcNo};
 use std::alloc::Global;
 
 fn is_named(entries: &[Entry]) -> bool
