@@ -7,12 +7,12 @@ ghost use Rattle.cd_drill.specs.Linking.{choice_answer, link_of, last_link};
 ghost use Rattle.cd_drill.specs.Pairs.{AreAtRest, frame_len, is_open_in, is_open, on_way, waits, CameOf, answer_to, WasBrought, HandledIn, HandledBelow, Accepted, last_in, counts_all, ChoseAtA, ChoseAtB, ChoseOne, TurnOf, IsNew};
 
 use crate::test_node::TestNode;
+use cd_book::same_bytes;
 use cd_effects::Fault;
 use cd_exchange::Session;
 use cd_outside::Sid;
 use cd_plain::Handled;
 use cd_protocol::Phase;
-use cd_session_rules::same_bytes;
 use cd_types::{Moment, NodeName};
 use std::alloc::Global;
 

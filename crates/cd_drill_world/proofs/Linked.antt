@@ -2,7 +2,7 @@
 use Rattle.std.proofs.Common.{◌≡◌, ℕ, zero, suc, ◌+◌, ◌<◌, false, eqb, List, [], ◌∷◌, ◌++◌, length, Some, sym, ◌∙◌, ap, subst, arith}
 use Rattle.std.specs.Prelude.{slice_get, slice_set}
 use Rattle.std.proofs.lemmas.Bool.{ne_eqb}
-use Rattle.cd_drill.specs.declared.pair.Link.{Link}
+use Rattle.cd_drill.specs.declared.test_pair.Link.{Link}
 
 -- it has this number at both nodes, and each took all that came of it
 pub record IsLinked (number : ℕ) (taken_a taken_b : ℕ → List ℕ) (link : Link) : Type 0 where

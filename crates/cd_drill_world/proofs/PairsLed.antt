@@ -14,7 +14,7 @@ use Rattle.cd_canonical.specs.Read.{canonical_reading}
 use Rattle.cd_drill.specs.AtRest.{told_of, IsSame, Chose, Took}
 use Rattle.cd_drill.specs.Pairs.{Turned, HandledIn, HandledAtB, HandledAtA, on_way, CameOf, with_a, with_b, FollowedBy, has_more, newest, newest_of, counts_all, AreCounted, ChoseAtA, ChoseAtB, ChoseThere, ChoseBehind, FoundNothing}
 use Rattle.cd_drill.specs.declared.test_node.TestNode.{TestNode}
-use Rattle.cd_drill.specs.declared.pair.Link.{Link}
+use Rattle.cd_drill.specs.declared.test_pair.Link.{Link}
 use Rattle.cd_drill.specs.declared.test_pair.TestPair.{TestPair}
 use Rattle.cd_world.specs.World.{A, B, World, seen_from}
 use Rattle.cd_drill_world.proofs.Brought.{Brought}

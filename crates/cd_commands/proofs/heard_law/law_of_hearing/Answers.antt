@@ -7,7 +7,7 @@ use Rattle.cd_commands.specs.Seen.{seen}
 use Rattle.cd_commands.specs.declared.heard.Heard.TheVariants as hearing
 use Rattle.cd_commands.specs.Heard.{fault_of, faulty, heard}
 use Rattle.cd_commands.proofs.HeardTold.{command_heard, fault_heard, command_is, fault_is}
-use Rattle.cd_commands.proofs.law.law_of_hearing.Goals as goal
+use Rattle.cd_commands.proofs.heard_law.law_of_hearing.Goals as goal
 
 pub returns : goal.returns
 returns c = record {

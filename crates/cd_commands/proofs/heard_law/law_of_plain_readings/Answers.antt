@@ -9,7 +9,7 @@ use Rattle.cd_automaton.specs.Machine.{whole}
 use Rattle.cd_commands.specs.Texts.{read_plain}
 use Rattle.cd_commands.proofs.Converse.{ok_is, err_is}
 use Rattle.cd_commands.proofs.Plain.{keyed, process_read, fault_read}
-use Rattle.cd_commands.proofs.law.law_of_plain_readings.Goals as goal
+use Rattle.cd_commands.proofs.heard_law.law_of_plain_readings.Goals as goal
 
 pub returns : goal.returns
 returns c = record {

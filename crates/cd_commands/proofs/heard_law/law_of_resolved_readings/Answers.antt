@@ -5,7 +5,7 @@ use Rattle.cd_grammar.specs.Later.{Found}
 use Rattle.cd_commands.specs.Texts.{read_as}
 use Rattle.cd_commands.proofs.Converse.{ok_is, err_is}
 use Rattle.cd_commands.proofs.Resolved.{process_read, fault_read}
-use Rattle.cd_commands.proofs.law.law_of_resolved_readings.Goals as goal
+use Rattle.cd_commands.proofs.heard_law.law_of_resolved_readings.Goals as goal
 
 pub returns : goal.returns
 returns c = record {

@@ -1,6 +1,6 @@
 use Rattle.std.proofs.Common.{refl, ap, ◌∙◌}
 use Rattle.cd_drill.proofs.Begun.{at_first}
-use Rattle.cd_drill.proofs.half.empty.Goals as goal
+use Rattle.cd_drill.proofs.test_node.empty.Goals as goal
 
 pub returns-clause-rest : goal.returns-clause-rest
 returns-clause-rest c =

@@ -1,6 +1,6 @@
 use Rattle.std.proofs.Common.{ℕ, List, take, sym, ap, ◌∙◌}
 use Rattle.cd_drill.specs.Pairs.{answer_to}
-use Rattle.cd_drill.proofs.pair.bring.Goals as goal
+use Rattle.cd_drill.proofs.test_pair.bring.Goals as goal
 
 pub returns-then-has_taken-clause-brought : goal.returns-then-has_taken-clause-brought
 returns-then-has_taken-clause-brought c = record {

@@ -11,7 +11,7 @@ use Rattle.cd_exchange.proofs.Crash.{nothing_moves}
 use Rattle.cd_exchange.proofs.Ends.{ends_is, ends_fit, trouble_may, none_stopped, trouble_fault}
 use Rattle.cd_exchange.specs.Question.{view_with}
 use Rattle.cd_exchange.proofs.Reactions.{done_legal, done_on_time, cut_legal, cut_on_time}
-use Rattle.cd_exchange.proofs.ending.on_trouble.Goals as goal
+use Rattle.cd_exchange.proofs.closing.on_trouble.Goals as goal
 
 pub perform-requires-clause-allowed : goal.perform-requires-clause-allowed
 perform-requires-clause-allowed g c = (

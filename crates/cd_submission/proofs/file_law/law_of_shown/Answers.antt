@@ -2,7 +2,7 @@ use Rattle.std.proofs.Common.{◌≡◌, sym, ap, ◌∙◌}
 use Rattle.cd_commands.specs.Texts.{read_as}
 use Rattle.cd_submission.specs.Reading.{of_text}
 use Rattle.cd_submission.proofs.OfText.{reads, read_ok}
-use Rattle.cd_submission.proofs.law.law_of_shown.Goals as goal
+use Rattle.cd_submission.proofs.file_law.law_of_shown.Goals as goal
 
 pub returns-clause-every_process : goal.returns-clause-every_process
 returns-clause-every_process c = λ name text symbols process says.

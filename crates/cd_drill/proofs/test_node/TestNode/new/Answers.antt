@@ -5,7 +5,7 @@ use Rattle.cd_entries.specs.declared.entry.Entry.{Entry}
 use Rattle.cd_operator.specs.Doing.{added_by, doing, with_added}
 use Rattle.cd_operator.specs.declared.reply.Refused.{Refused}
 use Rattle.cd_operator.specs.declared.wanted.Recording.{Recording}
-use Rattle.cd_drill.proofs.half.TestNode.new.Goals as goal
+use Rattle.cd_drill.proofs.test_node.TestNode.new.Goals as goal
 
 pub returns-in-Ok-command-clause-home : goal.returns-in-Ok-command-clause-home
 returns-in-Ok-command-clause-home c =

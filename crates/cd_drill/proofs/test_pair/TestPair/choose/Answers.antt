@@ -2,7 +2,7 @@ use Rattle.std.proofs.Common.{Bool, subst}
 use Rattle.cd_drill.specs.Linking.{choice_answer}
 use Rattle.cd_drill.specs.Pairs.{ChoseAtA}
 use Rattle.cd_drill.proofs.Turns.{chose_behind}
-use Rattle.cd_drill.proofs.pair.TestPair.choose.Goals as goal
+use Rattle.cd_drill.proofs.test_pair.TestPair.choose.Goals as goal
 
 pub returns-clause-chose : goal.returns-clause-chose
 returns-clause-chose c =

@@ -2,7 +2,7 @@ use Rattle.std.proofs.Common.{◌<◌, List, length, ap, arith}
 use Rattle.cd_exchange.specs.declared.session.Session.{Session}
 use Rattle.cd_drill.specs.Linking.{choice_answer}
 use Rattle.cd_drill.proofs.Begins.{begun_at_a}
-use Rattle.cd_drill.proofs.pair.TestPair.choose_at_a.Goals as goal
+use Rattle.cd_drill.proofs.test_pair.TestPair.choose_at_a.Goals as goal
 
 pub returns-in_ok-link-clause-chose : goal.returns-in_ok-link-clause-chose
 returns-in_ok-link-clause-chose c =

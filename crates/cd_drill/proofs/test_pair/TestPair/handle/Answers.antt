@@ -1,6 +1,6 @@
 use Rattle.std.proofs.Common.{◌<◌, ap, arith, length}
 use Rattle.cd_drill.proofs.Turns.{handled_one, none_there, none_below}
-use Rattle.cd_drill.proofs.pair.TestPair.handle.Goals as goal
+use Rattle.cd_drill.proofs.test_pair.TestPair.handle.Goals as goal
 
 pub returns-then-branch-clause-handled : goal.returns-then-branch-clause-handled
 returns-then-branch-clause-handled c =

@@ -1,6 +1,6 @@
 use Rattle.std.proofs.Common.{◌≡◌, take, true}
 use Rattle.cd_drill.specs.Pairs.{none_waits}
-use Rattle.cd_drill.proofs.pair.TestPair.handle.Given as goal
+use Rattle.cd_drill.proofs.test_pair.TestPair.handle.Given as goal
 
 abbrev pub invariant-loop-at : goal.invariant-loop-at
 invariant-loop-at l = record {
