@@ -4,7 +4,8 @@ ghost use Rattle.cd_outside.specs.Counts.{next, Rose};
 ghost use Rattle.cd_outside.specs.Doubt.{settled};
 
 use crate::closing::close_journal;
-use crate::machine::{Machine, is_said, quiet};
+use crate::machine::{Machine, quiet};
+use crate::testing::is_said;
 use crate::worked::{NAMED, SUBMIT, SUBMITTED};
 use cd_cli::Status;
 use cd_journal::{Journal, JournalFault};
@@ -54,7 +55,7 @@ fn blanks_end(
             assert_eq!(rt; ended, status);
             Ok(())
         }
-        Err(fault) => Err(fault),
+        Err(fault) => Err(Fail::from(fault)),
     }
 }
 

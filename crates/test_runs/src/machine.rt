@@ -1,25 +1,24 @@
 //! A node over devices in memory.
+//! A device has parts within parts, and what drops them all is laid out at each exit of the function that owns one. So a device
+//! is lent to what may fail, and each kind is dropped in one place (`closing`).
 ghost use Rattle.std.specs.Prelude.{◌≤◌};
 ghost use Rattle.cd_outside.specs.Disk.{last_of};
 ghost use Rattle.cd_memory.specs.MemoryDisk.{state_of};
 
-use crate::closing::{close_disk, close_files, close_journal, close_sink, close_source};
+use crate::closing::{close_disk, close_files, close_sink, close_source};
 use cd_cli::{Status, run_node};
-use cd_journal::Journal;
 use cd_memory::{FaultScript, MemoryClock, MemoryDisk, MemoryFiles, MemorySink, MemorySource};
 use cd_outside::{Beat, Sink, Source};
 use cd_types::{Moment, NoMemory};
 use std::alloc::Global;
-use std::process::Abort;
-use std::test::Fail;
 
 /// A disk and files in memory, on which the node may run more than once.
 #[derive(Drop)]
 pub struct Machine {
-    alloc: Global,
-    disk: MemoryDisk,
-    files: MemoryFiles,
-    beat: Beat,
+    pub alloc: Global,
+    pub disk: MemoryDisk,
+    pub files: MemoryFiles,
+    pub beat: Beat,
     ghost order: { last_of (state_of disk).calls ≤ beat },
 }
 
@@ -35,13 +34,6 @@ impl Ran {
     pub fn close(self) {
         close_sink(self.out);
     }
-}
-
-/// What stands on a disk.
-#[derive(Drop)]
-pub struct Kept {
-    pub count: u32,
-    pub last: Vec<u8>,
 }
 
 /// No call of the device fails by it.
@@ -85,35 +77,24 @@ impl Machine {
     }
 
     /// Puts a file with these bytes.
-    pub fn put(&mut self, name: &[u8], bytes: &[u8]) -> Result<(), Fail> {
-        self.files.put(name, bytes)?;
-        Ok(())
+    pub fn put(&mut self, name: &[u8], bytes: &[u8]) -> Result<(), NoMemory> {
+        self.files.put(name, bytes)
     }
 
-    /// The bytes of a file.
-    pub fn file(&self, name: &[u8]) -> Option<&[u8]> {
-        self.files.get(name)
+    /// Puts a line behind what the file of this name holds.
+    pub fn put_line(&mut self, name: &[u8], line: &[u8]) -> Result<(), NoMemory> {
+        let mut bytes = Vec::new(self.alloc);
+        if let Some(held) = self.files.get(name) {
+            bytes.extend_from_slice(held)?;
+        }
+        bytes.extend_from_slice(line)?;
+        bytes.push(b'\n')?;
+        self.files.put(name, &bytes)
     }
 
-    /// The k-th next call of the disk fails.
-    pub fn fail(&mut self, k: u64) -> Result<(), Fail> {
-        self.disk.fail(k)?;
-        Ok(())
-    }
-
-    /// Stops within the k-th next changing call of the disk.
-    pub fn stop_within(&mut self, k: u64) {
-        self.disk.stop_at(self.beat.at().saturating_add(k));
-    }
-
-    /// The disk met the stop.
-    pub fn stopped(&self) -> bool {
-        self.disk.stopped()
-    }
-
-    /// The machine starts again, with this image of the disk.
-    pub fn crash(&mut self, image: u64) {
-        self.disk.crash(image);
+    /// The k-th next call of the files fails.
+    pub fn fail_files(&mut self, k: u64) -> Result<(), NoMemory> {
+        self.files.fail(k)
     }
 
     /// Runs the node on this input and output, at the moment 1,709,287,200.
@@ -122,9 +103,11 @@ impl Machine {
         words: &[&str],
         input: &mut S,
         out: &mut O,
-    ) -> Result<Status, Fail> {
+    ) -> Result<Status, NoMemory> {
         let mut clock = MemoryClock::new(self.alloc, quiet(self.alloc))?;
-        clock.set(Moment::new(1_709_287_200).ok_or("no moment")?);
+        if let Some(moment) = Moment::new(1_709_287_200) {
+            clock.set(moment);
+        }
         Ok(run_node(
             self.alloc,
             words,
@@ -143,9 +126,9 @@ impl Machine {
         words: &[&str],
         input: &mut S,
         script: FaultScript,
-    ) -> Result<Ran, Fail> {
+    ) -> Result<Ran, NoMemory> {
         let Ok(mut out) = MemorySink::new(self.alloc, script) else {
-            return Err(Fail::from("no output"));
+            return Err(NoMemory);
         };
         match self.serve(words, input, &mut out) {
             Ok(status) => Ok(Ran { status, out }),
@@ -157,47 +140,15 @@ impl Machine {
     }
 
     /// Runs the node on these commands.
-    pub fn run(&mut self, commands: &[u8]) -> Result<Ran, Fail> {
+    pub fn run(&mut self, commands: &[u8]) -> Result<Ran, NoMemory> {
         let Ok(mut input) = MemorySource::new(self.alloc, quiet(self.alloc)) else {
-            return Err(Fail::from("no input"));
+            return Err(NoMemory);
         };
         let ran = match input.feed(commands) {
             Ok(()) => self.answer(&[], &mut input, quiet(self.alloc)),
-            Err(fault) => Err(Fail::from(fault)),
+            Err(fault) => Err(fault),
         };
         close_source(input);
         ran
     }
-
-    /// Runs the node on these commands: it writes these lines. How it ended is told.
-    pub fn says(&mut self, rt: &impl Abort, commands: &[u8], lines: &[u8]) -> Result<Status, Fail> {
-        match self.run(commands) {
-            Ok(ran) => Ok(is_said(rt, ran, lines)),
-            Err(fault) => Err(fault),
-        }
-    }
-
-    /// Opens the journal, and reads its last entry.
-    pub fn kept(&mut self, rt: &impl Abort) -> Result<Kept, Fail> {
-        let mut journal = match Journal::open(self.alloc, &mut self.disk, &mut self.beat) {
-            Ok(journal) => journal,
-            Err(fault) => return Err(Fail::from(fault)),
-        };
-        let count = journal.count();
-        assert!(rt; journal.has_header());
-        assert!(rt; count > 0);
-        let mut last = Vec::new(self.alloc);
-        let read = journal.entry(&mut self.disk, count - 1, &mut last);
-        close_journal(journal);
-        read?;
-        Ok(Kept { count, last })
-    }
-}
-
-/// The run wrote these lines. How it ended is told.
-pub fn is_said(rt: &impl Abort, ran: Ran, lines: &[u8]) -> Status {
-    assert_eq!(rt; ran.out.bytes(), lines);
-    let status = ran.status;
-    ran.close();
-    status
 }

@@ -4,7 +4,8 @@ ghost use Rattle.cd_outside.specs.Disk.{last_of};
 ghost use Rattle.cd_memory.specs.SteadyDisk.{steady_state};
 
 use crate::closing::{close_source, close_steady_disk, close_steady_files};
-use crate::machine::{Machine, is_said, quiet};
+use crate::machine::{Machine, quiet};
+use crate::testing::is_said;
 use crate::worked::{FILE, FIRST, FROM_FILE, INIT, JOURNAL, NAMED, SUBMIT};
 use cd_cli::{Status, run_node};
 use cd_memory::{
@@ -267,7 +268,7 @@ fn ended(
 ) -> Result<Status, Fail> {
     match machine.answer(words, input, script) {
         Ok(ran) => Ok(is_said(rt, ran, lines)),
-        Err(fault) => Err(fault),
+        Err(fault) => Err(Fail::from(fault)),
     }
 }
 

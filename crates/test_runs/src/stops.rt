@@ -80,7 +80,7 @@ fn submitted(machine: &mut Machine) -> Result<Status, Fail> {
             ran.close();
             Ok(status)
         }
-        Err(fault) => Err(fault),
+        Err(fault) => Err(Fail::from(fault)),
     }
 }
 
@@ -88,7 +88,7 @@ fn failed(rt: &impl Abort, alloc: Global, machine: &mut Machine, call: u64) -> R
     machine.fail(call)?;
     let is_done = match machine.run(SUBMIT) {
         Ok(ran) => is_done(rt, ran),
-        Err(fault) => return Err(fault),
+        Err(fault) => return Err(Fail::from(fault)),
     };
     if is_done {
         assert_eq!(rt; machine.bytes(), JOURNAL);

@@ -1,5 +1,5 @@
 use Rattle.std.proofs.Common.{refl, List}
-use Rattle.cd_status.specs.Status.{outcome}
+use Rattle.cd_rules.specs.Status.{outcome}
 use Rattle.cd_entries.specs.declared.entry.Entry.{Entry}
 use Rattle.cd_book.proofs.Newest.{one_more, all_of}
 use Rattle.cd_book.proofs.step.outcome.Goals as goal

@@ -1,8 +1,8 @@
 use Rattle.std.proofs.Common.{sym, ap, ◌∙◌}
-use Rattle.cd_legal.specs.Legal.{is_cause_from}
+use Rattle.cd_rules.specs.Legal.{is_cause_from}
 use Rattle.cd_book.specs.declared.status.Status.{Status}
 use Rattle.cd_book.specs.Seen.{seen_status}
-use Rattle.cd_judge.proofs.outcome.is_cause_from.Goals as goal
+use Rattle.cd_legality.proofs.outcome.is_cause_from.Goals as goal
 
 pub returns-in-Started : goal.returns-in-Started
 returns-in-Started c =

@@ -3,9 +3,21 @@
 //! or `ALPHA`. Lines behind it may put files: `text NAME REST` one of this name that holds REST, and `line NAME REST` the line REST
 //! behind what it holds; `fail K` has the K-th next call of the files fail. What follows is the input of the run. An answer is the
 //! output of the run, and a line with its exit status and the length of the journal that it leaves, in bytes.
+//! Its tests are whole runs against lines and bytes that were written by hand.
 #![tactic(auto)]
 
+mod closing;
+#[cfg(test)]
+mod limits;
 mod machine;
+#[cfg(test)]
+mod runs;
+#[cfg(test)]
+mod stops;
+#[cfg(test)]
+mod testing;
+#[cfg(test)]
+mod worked;
 
 use anyhow::Result;
 use cd_types::NoMemory;
@@ -43,7 +55,7 @@ fn prepared(machine: &mut Machine, line: &str) -> Result<bool, NoMemory> {
         return Ok(false);
     };
     match digits.parse::<u64>() {
-        Ok(k) => machine.fail(k)?,
+        Ok(k) => machine.fail_files(k)?,
         Err(_) => return Ok(false),
     }
     Ok(true)
@@ -103,7 +115,7 @@ fn answers_of(
 
 // What a run on a home with this name, or without one, answers to these lines and commands.
 fn answers(alloc: Global, is_named: bool, text: &str) -> Result<String, NoMemory> {
-    let Ok(mut machine) = Machine::new(alloc) else {
+    let Ok(mut machine) = Machine::new(alloc, b"") else {
         return Err(NoMemory);
     };
     let said = answers_of(alloc, &mut machine, is_named, text);
