@@ -19,7 +19,7 @@ def provers():
         except OSError:
             continue
         crate = words[words.index("--crate-name") + 1]
-        kind = "edits" if "rt-edits" in folder else "tests" if "--test" in words else "proof"
+        kind = "edits" if "/rt-edit" in folder else "tests" if "--test" in words else "proof"
         yield (pid, fields[19]), crate, kind, (int(fields[11]) + int(fields[12])) / TICK
 
 

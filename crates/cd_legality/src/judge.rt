@@ -39,8 +39,8 @@ fn is_first(entry: &Entry) -> bool
     }
 }
 
-// What the kind of an entry asks for.
-fn fits<T: Texts>(book: &Book<T>, entry: &Entry, process: Option<&Process>) -> bool
+// Whether the entry may follow those of the book, by what its kind asks for.
+fn may_follow<T: Texts>(book: &Book<T>, entry: &Entry, process: Option<&Process>) -> bool
     requires { IsRead T.read entry.now (option_map (λ p. p.now) process) }
     ensures { result ≡ may_follow T.read book.now.entries entry.now }
 {
@@ -72,11 +72,11 @@ fn fits<T: Texts>(book: &Book<T>, entry: &Entry, process: Option<&Process>) -> b
 
 /// Whether the entry may follow those of the book. With a submission comes the Process that its text reads as.
 #[tactic(auto, unfolding(cd_rules::specs::Legal::allowed))]
-pub fn may_follow<T: Texts>(book: &Book<T>, entry: &Entry, process: Option<&Process>) -> bool
+pub fn allowed<T: Texts>(book: &Book<T>, entry: &Entry, process: Option<&Process>) -> bool
     requires { IsRead T.read entry.now (option_map (λ p. p.now) process) }
     ensures { result ≡ allowed T.read book.now.entries entry.now }
 {
     (is_first(entry) || !is_empty(book))
         && is_from(book.latest(), moment_of(entry))
-        && fits(book, entry, process)
+        && may_follow(book, entry, process)
 }

@@ -12,4 +12,4 @@ mod received;
 mod started;
 mod symbols;
 
-pub use judge::may_follow;
+pub use judge::allowed;

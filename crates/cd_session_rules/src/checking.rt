@@ -12,7 +12,7 @@ use crate::{NodeView, close};
 use cd_ast::Process;
 use cd_book::{Texts, moment_of};
 use cd_entries::Entry;
-use cd_legality::may_follow;
+use cd_legality::allowed;
 use cd_protocol::{Effect, Phase, Reaction};
 use cd_types::{END_OF_PLACES, Moment, NoMemory, is_file_name};
 use std::alloc::Global;
@@ -60,7 +60,7 @@ pub fn may_record<T: Texts>(
     requires { IsRead T.read entry.now (option_map (λ p. p.now) process) }
     ensures { result ≡ may_record T.read now view.now.book.now.entries entry.now }
 {
-    may_follow(view.book, entry, process) && is_by(now, moment_of(entry)) && is_formed(entry)
+    allowed(view.book, entry, process) && is_by(now, moment_of(entry)) && is_formed(entry)
 }
 
 /// The entry that effects record, where one does.

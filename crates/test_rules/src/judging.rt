@@ -6,7 +6,7 @@ use crate::closing::{close_book, close_entry, close_reading};
 use cd_ast::{Process, Stmt, Stmts, TaskStep, What};
 use cd_book::{Book, Status, Texts};
 use cd_entries::Entry;
-use cd_legality::may_follow;
+use cd_legality::allowed;
 use cd_types::{
     Bytes, Card, Cause, Disp, Filed, Hold, How, Key, Label, Moment, NoMemory, NodeName, Outcomes,
     Placing, ProcNo, Queue, Reason, Receiving, Retain, Side, TaskKind,
@@ -64,7 +64,7 @@ impl Texts for OneTask {
 fn add(rt: &impl Abort, book: &mut Book<OneTask>, entry: Entry) -> Result<(), Fail>
     requires { IsRead ⟦<OneTask as Texts>⟧.read entry None }
 {
-    assert!(rt; may_follow(book, &entry, None));
+    assert!(rt; allowed(book, &entry, None));
     match book.reserve() {
         Ok(()) => {
             book.put(entry, None);
@@ -81,7 +81,7 @@ fn add(rt: &impl Abort, book: &mut Book<OneTask>, entry: Entry) -> Result<(), Fa
 fn may(book: &Book<OneTask>, entry: Entry) -> bool
     requires { IsRead ⟦<OneTask as Texts>⟧.read entry None }
 {
-    let may = may_follow(book, &entry, None);
+    let may = allowed(book, &entry, None);
     close_entry(entry);
     may
 }
@@ -109,7 +109,7 @@ fn submit(
         Err(fault) => return Err(Fail::from(fault)),
     };
     let entry = Entry::Submitted(number, moment, None, card, text);
-    assert!(rt; may_follow(book, &entry, process.as_ref()));
+    assert!(rt; allowed(book, &entry, process.as_ref()));
     match book.reserve() {
         Ok(()) => {
             book.put(entry, process);
