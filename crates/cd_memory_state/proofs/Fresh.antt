@@ -15,3 +15,8 @@ one_more sessions now new is fresh (suc i) = (λ j. get_or (is j) i fresh_sessio
 
 pub same_traffic : (sessions now : List SessionHeld) (sends : List ℕ) → ((session : ℕ) → session_at now session ≡ session_at sessions session) → traffic_of now sends ≡ traffic_of sessions sends
 same_traffic sessions now sends same = λ j. record { taken = λ session. (same session j).taken; given = λ session. (same session j).given; sends = sends }
+
+-- without sessions each is one of which nothing was taken or given
+pub none_yet : (session : ℕ) → session_at [] session ≡ fresh_session
+none_yet zero = refl
+none_yet (suc i) = refl

@@ -42,3 +42,8 @@ bytes_push parts = λ j number. point number j
 pub count_push : (counts : List ℕ) (session : ℕ) → count_of (counts ++ 0 ∷ []) session ≡ count_of counts session
 count_push counts zero = refl
 count_push counts (suc k) = push_default counts k 0
+
+-- no session came so far
+pub count_none : (session : ℕ) → count_of [] session ≡ 0
+count_none zero = refl
+count_none (suc k) = refl

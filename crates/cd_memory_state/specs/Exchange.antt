@@ -25,6 +25,11 @@ pub record SameTraffic (old new : Exchange) : Type 0 where
   pub traffic : traffic_in new ≡ traffic_in old
   pub last : last_in new ≡ last_in old
 
+-- nothing was counted so far
+pub record NoCounts (exchange : Exchange) : Type 0 where
+  pub faults : (session : ℕ) → faults_in exchange session ≡ 0
+  pub ends : (session : ℕ) → ends_in exchange session ≡ 0
+
 -- the counts are as they were
 pub record SameCounts (old new : Exchange) : Type 0 where
   pub faults : (session : ℕ) → faults_in new session ≡ faults_in old session
@@ -34,6 +39,7 @@ pub record SameCounts (old new : Exchange) : Type 0 where
 pub record CountsFault (number : ℕ) (old new : Exchange) : Type 0 where
   pub rose : faults_in new number ≡ next (faults_in old number)
   pub faults : (session : ℕ) → faults_in old session ≤ faults_in new session
+  pub others : (other : ℕ) → (number == other) ≡ false → faults_in new other ≡ faults_in old other
   pub ends : (session : ℕ) → ends_in new session ≡ ends_in old session
 
 -- a session's end was counted, and nothing else

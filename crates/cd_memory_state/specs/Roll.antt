@@ -28,6 +28,11 @@ roll_calls_left roll =
 abbrev pub roll_bytes_left : Roll → ℕ
 roll_bytes_left roll = min roll.given.bytes_left roll.taken.bytes_left
 
+-- nothing was counted so far
+pub record NoRollCounts (roll : Roll) : Type 0 where
+  pub faults : (session : ℕ) → roll_faults roll session ≡ 0
+  pub ends : (session : ℕ) → roll_ends roll session ≡ 0
+
 -- the counts are as they were
 pub record SameRollCounts (old new : Roll) : Type 0 where
   pub faults : (session : ℕ) → roll_faults new session ≡ roll_faults old session
@@ -44,6 +49,7 @@ pub record SameRoll (old new : Roll) : Type 0 where
 pub record CountsRollFault (number : ℕ) (old new : Roll) : Type 0 where
   pub rose : roll_faults new number ≡ next (roll_faults old number)
   pub faults : (session : ℕ) → roll_faults old session ≤ roll_faults new session
+  pub others : (other : ℕ) → (number == other) ≡ false → roll_faults new other ≡ roll_faults old other
   pub ends : (session : ℕ) → roll_ends new session ≡ roll_ends old session
 
 -- a session's end was counted, and nothing else

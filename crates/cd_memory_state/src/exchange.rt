@@ -13,11 +13,12 @@ pub struct Exchange {
 impl Exchange {
     ghost use Rattle.std.specs.Prelude.{◌≡◌, ◌≤◌, ◌+◌, IfOk, OnOk, OnErr};
     ghost use Rattle.cd_outside.specs.Lines.{IsFresh, took, sent};
-    ghost use Rattle.cd_memory_state.specs.Exchange.{traffic_in, last_in, SameTraffic, SameCounts, CountsFault, CountsEnd};
+    ghost use Rattle.cd_memory_state.specs.Exchange.{traffic_in, last_in, SameTraffic, NoCounts, SameCounts, CountsFault, CountsEnd};
 
     /// No session.
     pub fn new(alloc: Global) -> Self
         ensures last { last_in result ≡ 0 }
+        ensures counts { NoCounts result }
     {
         Exchange {
             alloc,

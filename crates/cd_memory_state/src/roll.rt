@@ -22,11 +22,12 @@ impl Roll {
     ghost use Rattle.std.specs.Prelude.{◌≡◌, ◌≤◌, ◌<◌, ◌+◌, ◌^◌, length, IsOk, IfOk, OnOk, OnErr};
     ghost use Rattle.cd_outside.specs.Lines.{IsFresh, took, sent};
     ghost use Rattle.cd_memory_state.specs.Numbered.{bytes_of};
-    ghost use Rattle.cd_memory_state.specs.Roll.{roll_traffic, roll_last, roll_calls_left, roll_bytes_left, SameRollCounts, SameRoll, CountsRollFault, CountsRollEnd};
+    ghost use Rattle.cd_memory_state.specs.Roll.{roll_traffic, roll_last, roll_calls_left, roll_bytes_left, NoRollCounts, SameRollCounts, SameRoll, CountsRollFault, CountsRollEnd};
 
     /// No session, and no room.
     pub fn new(alloc: Global) -> Self
         ensures last { roll_last result ≡ 0 }
+        ensures counts { NoRollCounts result }
     {
         Roll {
             taken: Parts::new(alloc),
