@@ -11,5 +11,6 @@ pub mod SteadyLines
 pub mod SteadySpawner
 pub mod SteadyStreams
 pub mod Stops
+pub mod Zero
 pub use Rattle.cd_memory_state.specs.Generator
 pub use Rattle.cd_memory_state.specs.Record

@@ -4,6 +4,7 @@ use Rattle.std.specs.List.{list_any}
 use Rattle.cd_outside.specs.Counts.{next}
 use Rattle.cd_memory.specs.Stops.{fate_of, is_stopping}
 use Rattle.cd_memory.specs.declared.fate.Fate.{Fate}
+use Rattle.cd_memory.specs.declared.fate.Fate.TheVariants.{Nothing}
 use Rattle.cd_outside.specs.Files.{FilesState}
 use Rattle.cd_memory_state.specs.Shelves.{state_in, names_in}
 use Rattle.cd_memory.specs.declared.files.MemoryFiles.{MemoryFiles}
@@ -75,10 +76,12 @@ pub record WasAsked (old new : MemoryFiles) : Type 0 where
   pub stop : stop_of new ≡ stop_of old
   pub stopped : is_stopped new ≡ is_stopped old
 
--- a changing call was counted, and met the stop where that comes within it or came before it
+-- A changing call was counted, and met the stop where that comes within it or came before it. Where it came to nothing,
+-- as it was asked to, it found no want of memory.
 pub record WasCalled (beat : ℕ) (old new : MemoryFiles) : Type 0 where
   pub script : script_of new ≡ script_of old
   pub calls : calls_of new ≡ next (calls_of old)
   pub starved : is_starved old ≡ true → is_starved new ≡ true
+  pub fed : next_fate old beat ≡ Nothing → is_starved new ≡ is_starved old
   pub stop : stop_of new ≡ stop_of old
   pub stopped : is_stopped new ≡ (is_stopped old || is_stopping (stop_of old) beat)

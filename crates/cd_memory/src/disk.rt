@@ -162,6 +162,7 @@ impl Disk for MemoryDisk {
         ensures nothing { next_fate self.old beat.old ≡ Nothing → IsErr result × (state_of self.new ≡ state_of self.old) }
         ensures under_way { next_fate self.old beat.old ≡ UnderWay → IsErr result × (is_starved self.new ≡ false → state_of self.new ≡ did (Write at bytes.now) beat.new (state_of self.old)) }
         ensures goes { next_fate self.old beat.old ≡ Done → is_starved self.new ≡ false → IsOk result }
+        ensures served { OnOk result (is_starved self.new ≡ is_starved self.old) }
     {
         let fails = self.tally.begin();
         let fate = self.stop.fate(beat, fails);
@@ -193,6 +194,7 @@ impl Disk for MemoryDisk {
         ensures nothing { next_fate self.old beat.old ≡ Nothing → IsErr result × (state_of self.new ≡ state_of self.old) }
         ensures under_way { next_fate self.old beat.old ≡ UnderWay → IsErr result × (is_starved self.new ≡ false → state_of self.new ≡ did (Cut len) beat.new (state_of self.old)) }
         ensures goes { next_fate self.old beat.old ≡ Done → is_starved self.new ≡ false → IsOk result }
+        ensures served { OnOk result (is_starved self.new ≡ is_starved self.old) }
     {
         let fails = self.tally.begin();
         let fate = self.stop.fate(beat, fails);
@@ -225,6 +227,7 @@ impl Disk for MemoryDisk {
         ensures nothing { next_fate self.old beat.old ≡ Nothing → IsErr result × (state_of self.new ≡ state_of self.old) }
         ensures under_way { next_fate self.old beat.old ≡ UnderWay → IsErr result × (state_of self.new ≡ state_of self.old) }
         ensures goes { next_fate self.old beat.old ≡ Done → is_starved self.new ≡ false → IsOk result }
+        ensures served { OnOk result (is_starved self.new ≡ is_starved self.old) }
     {
         let fails = self.tally.begin();
         match self.stop.fate(beat, fails) {

@@ -113,7 +113,7 @@ impl Files for MemoryFiles {
     ghost use Rattle.cd_outside.specs.Shelf.{content_of, WriteFile, CutFile, SyncFile, RemoveFile};
     ghost use Rattle.cd_outside.specs.Files.{files_last_of, files_did, FilesWereCutOff};
     ghost use Rattle.cd_memory_state.specs.Shelves.{state_in};
-    ghost use Rattle.cd_memory.specs.MemoryFiles.{state_of, faults_of, is_starved, fails_next, next_fate, WasAsked, WasCalled};
+    ghost use Rattle.cd_memory.specs.MemoryFiles.{state_of, calls_of, faults_of, is_starved, fails_next, next_fate, WasAsked, WasCalled};
     ghost use Rattle.cd_memory.specs.declared.fate.Fate.TheVariants.{Done, UnderWay, Nothing};
 
     ghost observable = { Unit {0} };
@@ -188,6 +188,7 @@ impl Files for MemoryFiles {
         ensures nothing { next_fate self.old beat.old ≡ Nothing → IsErr result × (state_of self.new ≡ state_of self.old) }
         ensures under_way { next_fate self.old beat.old ≡ UnderWay → IsErr result × (is_starved self.new ≡ false → state_of self.new ≡ files_did (WriteFile name.now at bytes.now) beat.new (state_of self.old)) }
         ensures goes { next_fate self.old beat.old ≡ Done → is_starved self.new ≡ false → IsOk result }
+        ensures served { OnOk result (is_starved self.new ≡ is_starved self.old) }
         ensures call { calls_of self.new ≡ next (calls_of self.old) }
     {
         let fails = self.tally.begin();
@@ -219,6 +220,7 @@ impl Files for MemoryFiles {
         ensures nothing { next_fate self.old beat.old ≡ Nothing → IsErr result × (state_of self.new ≡ state_of self.old) }
         ensures under_way { next_fate self.old beat.old ≡ UnderWay → IsErr result × (is_starved self.new ≡ false → state_of self.new ≡ files_did (CutFile name.now len) beat.new (state_of self.old)) }
         ensures goes { next_fate self.old beat.old ≡ Done → is_starved self.new ≡ false → IsOk result }
+        ensures served { OnOk result (is_starved self.new ≡ is_starved self.old) }
         ensures call { calls_of self.new ≡ next (calls_of self.old) }
     {
         let fails = self.tally.begin();
@@ -250,6 +252,7 @@ impl Files for MemoryFiles {
         ensures nothing { next_fate self.old beat.old ≡ Nothing → IsErr result × (state_of self.new ≡ state_of self.old) }
         ensures under_way { next_fate self.old beat.old ≡ UnderWay → IsErr result × (state_of self.new ≡ state_of self.old) }
         ensures goes { next_fate self.old beat.old ≡ Done → is_starved self.new ≡ false → IsOk result }
+        ensures served { OnOk result (is_starved self.new ≡ is_starved self.old) }
         ensures call { calls_of self.new ≡ next (calls_of self.old) }
     {
         let fails = self.tally.begin();
@@ -277,6 +280,7 @@ impl Files for MemoryFiles {
         ensures nothing { next_fate self.old beat.old ≡ Nothing → IsErr result × (state_of self.new ≡ state_of self.old) }
         ensures under_way { next_fate self.old beat.old ≡ UnderWay → IsErr result × (is_starved self.new ≡ false → state_of self.new ≡ files_did (RemoveFile name.now) beat.new (state_of self.old)) }
         ensures goes { next_fate self.old beat.old ≡ Done → is_starved self.new ≡ false → IsOk result }
+        ensures served { OnOk result (is_starved self.new ≡ is_starved self.old) }
         ensures call { calls_of self.new ≡ next (calls_of self.old) }
     {
         let fails = self.tally.begin();

@@ -27,11 +27,13 @@ pub struct MemoryLines {
 
 impl MemoryLines {
     ghost use Rattle.std.specs.Prelude.{◌≡◌, ◌+◌, ◌++◌, [], ◌∷◌, min, false, OnOk, OnErr, IfOk};
-    ghost use Rattle.cd_memory.specs.MemoryLines.{traffic_of, last_of, lines_script, lines_calls, are_starved, waiting_of, are_refusing, pieces_of, SameSessions};
+    ghost use Rattle.cd_memory.specs.MemoryLines.{traffic_of, last_of, counts_of, lines_script, lines_calls, are_starved, waiting_of, are_refusing, pieces_of, SameSessions};
+    ghost use Rattle.cd_memory.specs.Zero.{AreZero};
 
     /// No session; the calls of these numbers fail. Closing is no call that can fail.
     pub fn new(alloc: Global, script: FaultScript) -> Result<Self, NoMemory>
         ensures last { IfOk result (λ lines. last_of lines ≡ 0) }
+        ensures counts { IfOk result (λ lines. AreZero (counts_of lines)) }
         ensures script { IfOk result (λ lines. (lines_script lines ≡ script) × (lines_calls lines ≡ 0)) }
         ensures waiting { IfOk result (λ lines. (waiting_of lines ≡ 0) × (are_refusing lines ≡ false) × (pieces_of lines ≡ [])) }
         ensures fed { IfOk result (λ lines. are_starved lines ≡ false) }
@@ -120,7 +122,7 @@ impl MemoryLines {
 impl Lines for MemoryLines {
     ghost use Rattle.std.specs.Prelude.{◌≡◌, ◌≤◌, ◌<◌, ◌+◌, length, take, true, false, is_some, if◌then◌else◌, IsOk, IsErr, IfOk, OnOk, OnErr, IfSome, IfNone};
     ghost use Rattle.cd_outside.specs.Counts.{next, Rose};
-    ghost use Rattle.cd_outside.specs.Lines.{IsFresh, took, sent, GaveFront, NeverFell, CountsIf, SameEnds, SameOtherEnds, is_end, is_no_session};
+    ghost use Rattle.cd_outside.specs.Lines.{IsFresh, took, sent, GaveFront, NeverFell, CountsIf, SameEnds, SameOtherEnds, SameFaults, SameOtherFaults, is_end, is_no_session};
     ghost use Rattle.cd_memory_state.specs.Exchange.{traffic_in, last_in, faults_in, ends_in};
     ghost use Rattle.cd_memory_state.specs.Pieces.{coming};
     ghost use Rattle.cd_outside.specs.declared.lines.ConnectFault.TheVariants as fault;
@@ -138,11 +140,13 @@ impl Lines for MemoryLines {
         ensures same { traffic_of self.new ≡ traffic_of self.old }
         ensures last { last_of self.new ≡ last_of self.old }
         ensures ends { SameEnds (counts_of self.old) (counts_of self.new) }
+        ensures faults { SameFaults (counts_of self.old) (counts_of self.new) }
         ensures nones { (counts_of self.new).nones ≡ (counts_of self.old).nones }
         ensures later { NeverFell (counts_of self.old) (counts_of self.new) }
         ensures cause { OnErr result (Rose (counts_of self.old).accepts (counts_of self.new).accepts) }
         ensures counted { (lines_script self.new ≡ lines_script self.old) × (lines_calls self.new ≡ next (lines_calls self.old)) }
         ensures fails { lines_fail_next self.old ≡ true → IsErr result }
+        ensures fed { are_starved self.new ≡ are_starved self.old }
         ensures goes { lines_fail_next self.old ≡ false → IsOk result }
     {
         if self.tally.begin() {
@@ -157,6 +161,7 @@ impl Lines for MemoryLines {
         ensures fresh { IfOk result (λ sid. IsFresh sid.number (traffic_of self.new)) }
         ensures none { OnErr result (last_of self.new ≡ last_of self.old) }
         ensures ends { SameEnds (counts_of self.old) (counts_of self.new) }
+        ensures faults { SameFaults (counts_of self.old) (counts_of self.new) }
         ensures nones { (counts_of self.new).nones ≡ (counts_of self.old).nones }
         ensures later { NeverFell (counts_of self.old) (counts_of self.new) }
         ensures cause { OnErr result (Rose (counts_of self.old).connects (counts_of self.new).connects) }
@@ -164,6 +169,9 @@ impl Lines for MemoryLines {
         ensures fails { lines_fail_next self.old ≡ true → IsErr result }
         ensures refused { are_refusing self.old ≡ true → lines_fail_next self.old ≡ false → result ≡ Err fault.Refused }
         ensures goes { lines_fail_next self.old ≡ false → are_refusing self.old ≡ false → are_starved self.new ≡ false → IsOk result }
+        ensures asked_for { lines_fail_next self.old ≡ true → are_starved self.new ≡ are_starved self.old }
+        ensures fed { are_refusing self.old ≡ true → are_starved self.new ≡ are_starved self.old }
+        ensures served { OnOk result (are_starved self.new ≡ are_starved self.old) }
     {
         if self.tally.begin() {
             failed(&mut self.connects);
@@ -190,12 +198,15 @@ impl Lines for MemoryLines {
         ensures none { IfOk result (λ given. IfNone given (last_of self.new ≡ last_of self.old)) }
         ensures refused { OnErr result (last_of self.new ≡ last_of self.old) }
         ensures ends { SameEnds (counts_of self.old) (counts_of self.new) }
+        ensures faults { SameFaults (counts_of self.old) (counts_of self.new) }
         ensures nones { CountsIf (is_no_session result) (counts_of self.old).nones (counts_of self.new).nones }
         ensures later { NeverFell (counts_of self.old) (counts_of self.new) }
         ensures cause { OnErr result (Rose (counts_of self.old).accepts (counts_of self.new).accepts) }
         ensures counted { (lines_script self.new ≡ lines_script self.old) × (lines_calls self.new ≡ next (lines_calls self.old)) }
         ensures fails { lines_fail_next self.old ≡ true → IsErr result }
         ensures goes { lines_fail_next self.old ≡ false → are_starved self.new ≡ false → IsOk result }
+        ensures asked_for { lines_fail_next self.old ≡ true → are_starved self.new ≡ are_starved self.old }
+        ensures served { OnOk result (are_starved self.new ≡ are_starved self.old) }
         ensures none_waits { waiting_of self.old ≡ 0 → lines_fail_next self.old ≡ false → is_no_session result ≡ true }
         ensures one_waits { is_no_session result ≡ true → waiting_of self.old ≡ 0 }
         ensures waiting { IfOk result (λ given. waiting_of self.old ≡ waiting_of self.new + (if is_some given then 1 else 0)) }
@@ -229,12 +240,15 @@ impl Lines for MemoryLines {
         ensures last { last_of self.new ≡ last_of self.old }
         ensures ends { CountsIf (is_end result) ((counts_of self.old).ends sid.number) ((counts_of self.new).ends sid.number) }
         ensures other_ends { SameOtherEnds sid.number (counts_of self.old) (counts_of self.new) }
+        ensures other_faults { SameOtherFaults sid.number (counts_of self.old) (counts_of self.new) }
         ensures nones { (counts_of self.new).nones ≡ (counts_of self.old).nones }
         ensures later { NeverFell (counts_of self.old) (counts_of self.new) }
         ensures cause { OnErr result (Rose ((counts_of self.old).faults sid.number) ((counts_of self.new).faults sid.number)) }
         ensures counted { (lines_script self.new ≡ lines_script self.old) × (lines_calls self.new ≡ next (lines_calls self.old)) }
         ensures fails { lines_fail_next self.old ≡ true → IsErr result }
         ensures goes { lines_fail_next self.old ≡ false → are_starved self.new ≡ false → IsOk result }
+        ensures asked_for { lines_fail_next self.old ≡ true → are_starved self.new ≡ are_starved self.old }
+        ensures served { OnOk result (are_starved self.new ≡ are_starved self.old) }
         ensures bytes { IfOk result (λ n. take n into.new ≡ take (length into.old) (coming (traffic_of self.old) (pieces_of self.old) sid.number)) }
     {
         if self.tally.begin() {
@@ -263,12 +277,15 @@ impl Lines for MemoryLines {
         ensures front { OnErr result (GaveFront sid.number bytes.now (traffic_of self.old) (traffic_of self.new)) }
         ensures last { last_of self.new ≡ last_of self.old }
         ensures ends { SameEnds (counts_of self.old) (counts_of self.new) }
+        ensures other_faults { SameOtherFaults sid.number (counts_of self.old) (counts_of self.new) }
         ensures nones { (counts_of self.new).nones ≡ (counts_of self.old).nones }
         ensures later { NeverFell (counts_of self.old) (counts_of self.new) }
         ensures cause { OnErr result (Rose ((counts_of self.old).faults sid.number) ((counts_of self.new).faults sid.number)) }
         ensures counted { (lines_script self.new ≡ lines_script self.old) × (lines_calls self.new ≡ next (lines_calls self.old)) }
         ensures fails { lines_fail_next self.old ≡ true → IsErr result }
         ensures goes { lines_fail_next self.old ≡ false → are_starved self.new ≡ false → IsOk result }
+        ensures asked_for { lines_fail_next self.old ≡ true → are_starved self.new ≡ are_starved self.old }
+        ensures served { OnOk result (are_starved self.new ≡ are_starved self.old) }
     {
         if self.tally.begin() {
             self.exchange.fail(sid.number);

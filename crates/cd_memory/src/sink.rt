@@ -73,6 +73,8 @@ impl Sink for MemorySink {
         ensures cause { OnErr result (Rose (sink_faults self.old) (sink_faults self.new)) }
         ensures fails { fails_next self.old ≡ true → IsErr result }
         ensures goes { fails_next self.old ≡ false → is_sink_starved self.new ≡ false → IsOk result }
+        ensures asked_for { fails_next self.old ≡ true → is_sink_starved self.new ≡ is_sink_starved self.old }
+        ensures served { OnOk result (is_sink_starved self.new ≡ is_sink_starved self.old) }
         ensures fed { is_sink_starved self.old ≡ true → is_sink_starved self.new ≡ true }
         ensures counted { (sink_script self.new ≡ sink_script self.old) × (sink_calls self.new ≡ next (sink_calls self.old)) }
     {

@@ -57,7 +57,7 @@ impl MemorySource {
 impl Source for MemorySource {
     ghost use Rattle.std.specs.Prelude.{◌≡◌, ◌≤◌, ◌<◌, ◌↔◌, ◌++◌, [], length, take, true, false, IsOk, IsErr, IfOk, OnErr};
     ghost use Rattle.cd_outside.specs.Counts.{next, Rose};
-    ghost use Rattle.cd_memory.specs.MemoryStreams.{left_of, source_script, source_calls, source_faults};
+    ghost use Rattle.cd_memory.specs.MemoryStreams.{left_of, source_script, source_calls, source_faults, is_source_starved};
     ghost use Rattle.cd_memory.specs.MemoryStreams.{source_fails_next as fails_next};
 
     ghost observable = { Unit {0} };
@@ -76,6 +76,7 @@ impl Source for MemorySource {
         ensures cause { OnErr result (Rose (source_faults self.old) (source_faults self.new)) }
         ensures fails { fails_next self.old ≡ true → IsErr result }
         ensures goes { fails_next self.old ≡ false → IsOk result }
+        ensures fed { is_source_starved self.new ≡ is_source_starved self.old }
         ensures counted { (source_script self.new ≡ source_script self.old) × (source_calls self.new ≡ next (source_calls self.old)) }
     {
         if self.tally.begin() {

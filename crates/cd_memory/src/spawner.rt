@@ -41,7 +41,7 @@ impl MemorySpawner {
     pub fn fail(&mut self, k: u64) -> Result<(), NoMemory>
         ensures added { OnOk result (spawner_script self.new ≡ spawner_script self.old ++ min (spawner_calls self.old + k) 18446744073709551615 ∷ []) }
         ensures same { OnErr result (spawner_script self.new ≡ spawner_script self.old) }
-        ensures others { (children_of self.new ≡ children_of self.old) × (outcomes_of self.new ≡ outcomes_of self.old) × (used_of self.new ≡ used_of self.old) × (spawner_calls self.new ≡ spawner_calls self.old) × (spawner_faults self.new ≡ spawner_faults self.old) }
+        ensures others { (children_of self.new ≡ children_of self.old) × (outcomes_of self.new ≡ outcomes_of self.old) × (used_of self.new ≡ used_of self.old) × (spawner_calls self.new ≡ spawner_calls self.old) × (spawner_faults self.new ≡ spawner_faults self.old) × (is_spawner_starved self.new ≡ is_spawner_starved self.old) }
     {
         self.tally.fail(k)
     }
@@ -50,7 +50,7 @@ impl MemorySpawner {
     pub fn next_outcome(&mut self, outcome: Outcome) -> Result<(), NoMemory>
         ensures added { OnOk result (outcomes_of self.new ≡ outcomes_of self.old ++ outcome ∷ []) }
         ensures same { OnErr result (outcomes_of self.new ≡ outcomes_of self.old) }
-        ensures others { (children_of self.new ≡ children_of self.old) × (used_of self.new ≡ used_of self.old) × (spawner_script self.new ≡ spawner_script self.old) × (spawner_calls self.new ≡ spawner_calls self.old) × (spawner_faults self.new ≡ spawner_faults self.old) }
+        ensures others { (children_of self.new ≡ children_of self.old) × (used_of self.new ≡ used_of self.old) × (spawner_script self.new ≡ spawner_script self.old) × (spawner_calls self.new ≡ spawner_calls self.old) × (spawner_faults self.new ≡ spawner_faults self.old) × (is_spawner_starved self.new ≡ is_spawner_starved self.old) }
     {
         self.outcomes.push(outcome)?;
         Ok(())
@@ -76,7 +76,7 @@ impl MemorySpawner {
 }
 
 impl Spawner for MemorySpawner {
-    ghost use Rattle.std.specs.Prelude.{◌≡◌, ◌≤◌, ◌+◌, length, min, map, true, false, IsOk, IsErr, OnOk, OnErr};
+    ghost use Rattle.std.specs.Prelude.{◌≡◌, ◌≢◌, ◌≤◌, ◌+◌, length, min, map, true, false, IsOk, IsErr, OnOk, OnErr};
     ghost use Rattle.cd_outside.specs.Counts.{next, Rose};
     ghost use Rattle.cd_outside.specs.Spawner.{with_run, with_start, OnFailed};
     ghost use Rattle.cd_memory.specs.Children.{child_of};
@@ -97,6 +97,9 @@ impl Spawner for MemorySpawner {
         ensures used { (outcomes_of self.new ≡ outcomes_of self.old) × (used_of self.new ≡ min (used_of self.old + 1) (length (outcomes_of self.old))) }
         ensures fails { spawner_fails_next self.old ≡ true → result ≡ outcome.Failed }
         ensures goes { spawner_fails_next self.old ≡ false → is_spawner_starved self.new ≡ false → result ≡ coming_outcome self.old }
+        ensures asked_for { spawner_fails_next self.old ≡ true → is_spawner_starved self.new ≡ is_spawner_starved self.old }
+        ensures fed { coming_outcome self.old ≡ outcome.Failed → is_spawner_starved self.new ≡ is_spawner_starved self.old }
+        ensures served { result ≢ outcome.Failed → is_spawner_starved self.new ≡ is_spawner_starved self.old }
     {
         let outcome = next_outcome(&self.outcomes, self.used);
         if self.used < self.outcomes.len() {
@@ -129,6 +132,9 @@ impl Spawner for MemorySpawner {
         ensures fails { spawner_fails_next self.old ≡ true → IsErr result }
         ensures refused { coming_outcome self.old ≡ outcome.Failed → IsErr result }
         ensures goes { spawner_fails_next self.old ≡ false → is_spawner_starved self.new ≡ false → IsErr result → coming_outcome self.old ≡ outcome.Failed }
+        ensures asked_for { spawner_fails_next self.old ≡ true → is_spawner_starved self.new ≡ is_spawner_starved self.old }
+        ensures fed { coming_outcome self.old ≡ outcome.Failed → is_spawner_starved self.new ≡ is_spawner_starved self.old }
+        ensures served { OnOk result (is_spawner_starved self.new ≡ is_spawner_starved self.old) }
     {
         let outcome = next_outcome(&self.outcomes, self.used);
         if self.used < self.outcomes.len() {

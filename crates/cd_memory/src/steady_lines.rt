@@ -25,11 +25,12 @@ pub struct SteadyLines {
 impl SteadyLines {
     ghost use Rattle.std.specs.Prelude.{◌≡◌, ◌≤◌, ◌++◌, [], ◌∷◌, OnOk, OnErr, IfOk};
     ghost use Rattle.cd_memory.specs.SteadyLines.{traffic_of, last_of, counts_of, waiting_of, pieces_of, calls_left, bytes_left, SameSessions};
+    ghost use Rattle.cd_memory.specs.Zero.{AreZero};
 
     /// No session, and no room.
     pub fn new(alloc: Global) -> Result<Self, NoMemory>
         ensures last { IfOk result (λ lines. last_of lines ≡ 0) }
-        ensures counts { IfOk result (λ lines. ((counts_of lines).connects ≡ 0) × ((counts_of lines).accepts ≡ 0)) }
+        ensures counts { IfOk result (λ lines. AreZero (counts_of lines)) }
         ensures waiting { IfOk result (λ lines. (waiting_of lines ≡ 0) × (pieces_of lines ≡ [])) }
     {
         Ok(SteadyLines {
@@ -102,7 +103,7 @@ impl SteadyLines {
 impl Lines for SteadyLines {
     ghost use Rattle.std.specs.Prelude.{◌≡◌, ◌≤◌, ◌<◌, ◌+◌, length, take, true, is_some, if◌then◌else◌, IsOk, IfOk, OnOk, OnErr, IfSome, IfNone};
     ghost use Rattle.cd_outside.specs.Counts.{Rose};
-    ghost use Rattle.cd_outside.specs.Lines.{IsFresh, took, sent, GaveFront, NeverFell, CountsIf, SameEnds, SameOtherEnds, is_end, is_no_session};
+    ghost use Rattle.cd_outside.specs.Lines.{IsFresh, took, sent, GaveFront, NeverFell, CountsIf, SameEnds, SameOtherEnds, SameFaults, SameOtherFaults, is_end, is_no_session};
     ghost use Rattle.cd_memory_state.specs.Roll.{roll_traffic, roll_last, roll_faults, roll_ends};
     ghost use Rattle.cd_memory_state.specs.Pieces.{coming};
     ghost use Rattle.cd_memory.specs.SteadyLines.{traffic_of, last_of, counts_of, waiting_of, pieces_of, calls_left, bytes_left, FaultsStay};
@@ -118,6 +119,7 @@ impl Lines for SteadyLines {
     fn listen(&mut self, _: u16) -> Result<(), Failed>
         ensures same { self.new ≡ self.old }
         ensures ends { SameEnds (counts_of self.old) (counts_of self.new) }
+        ensures faults { SameFaults (counts_of self.old) (counts_of self.new) }
         ensures later { NeverFell (counts_of self.old) (counts_of self.new) }
         ensures steady { IsOk result }
     {
@@ -130,6 +132,7 @@ impl Lines for SteadyLines {
         ensures fresh { IfOk result (λ sid. IsFresh sid.number (traffic_of self.new)) }
         ensures none { OnErr result (last_of self.new ≡ last_of self.old) }
         ensures ends { SameEnds (counts_of self.old) (counts_of self.new) }
+        ensures faults { SameFaults (counts_of self.old) (counts_of self.new) }
         ensures nones { (counts_of self.new).nones ≡ (counts_of self.old).nones }
         ensures later { NeverFell (counts_of self.old) (counts_of self.new) }
         ensures cause { OnErr result (Rose (counts_of self.old).connects (counts_of self.new).connects) }
@@ -155,6 +158,7 @@ impl Lines for SteadyLines {
         ensures none { IfOk result (λ given. IfNone given (last_of self.new ≡ last_of self.old)) }
         ensures refused { OnErr result (last_of self.new ≡ last_of self.old) }
         ensures ends { SameEnds (counts_of self.old) (counts_of self.new) }
+        ensures faults { SameFaults (counts_of self.old) (counts_of self.new) }
         ensures nones { CountsIf (is_no_session result) (counts_of self.old).nones (counts_of self.new).nones }
         ensures later { NeverFell (counts_of self.old) (counts_of self.new) }
         ensures cause { OnErr result (Rose (counts_of self.old).accepts (counts_of self.new).accepts) }
@@ -190,6 +194,7 @@ impl Lines for SteadyLines {
         ensures last { last_of self.new ≡ last_of self.old }
         ensures ends { CountsIf (is_end result) ((counts_of self.old).ends sid.number) ((counts_of self.new).ends sid.number) }
         ensures other_ends { SameOtherEnds sid.number (counts_of self.old) (counts_of self.new) }
+        ensures other_faults { SameOtherFaults sid.number (counts_of self.old) (counts_of self.new) }
         ensures nones { (counts_of self.new).nones ≡ (counts_of self.old).nones }
         ensures later { NeverFell (counts_of self.old) (counts_of self.new) }
         ensures cause { OnErr result (Rose ((counts_of self.old).faults sid.number) ((counts_of self.new).faults sid.number)) }
@@ -220,6 +225,7 @@ impl Lines for SteadyLines {
         ensures front { OnErr result (GaveFront sid.number bytes.now (traffic_of self.old) (traffic_of self.new)) }
         ensures last { last_of self.new ≡ last_of self.old }
         ensures ends { SameEnds (counts_of self.old) (counts_of self.new) }
+        ensures other_faults { SameOtherFaults sid.number (counts_of self.old) (counts_of self.new) }
         ensures nones { (counts_of self.new).nones ≡ (counts_of self.old).nones }
         ensures later { NeverFell (counts_of self.old) (counts_of self.new) }
         ensures cause { OnErr result (Rose ((counts_of self.old).faults sid.number) ((counts_of self.new).faults sid.number)) }
