@@ -9,3 +9,4 @@ mod FirstReaction
 mod Reactions
 mod Way
 pub mod RestLaw
+pub mod OpenLaw

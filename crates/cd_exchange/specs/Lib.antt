@@ -4,6 +4,7 @@ pub mod Handling
 pub mod Setting
 pub mod Turn
 pub mod Going
+pub mod Open
 pub mod Question
 pub mod Rest
 pub mod Sessions

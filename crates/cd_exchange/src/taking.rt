@@ -1,21 +1,15 @@
 //! How a frame is handled, also where the files or the session fail in it.
-ghost use Rattle.std.specs.Prelude.{◌≡◌, ◌≢◌, ◌≤◌, ℕ, true, Ok, Err, OnOk, IfOk, IfErr};
+ghost use Rattle.std.specs.Prelude.{◌≡◌, Ok, OnOk, IfOk, IfErr};
 ghost use Rattle.cd_outside.specs.Counts.{Rose};
-ghost use Rattle.cd_outside.specs.Disk.{last_of};
-ghost use Rattle.cd_outside.specs.Files.{files_last_of};
-ghost use Rattle.cd_outside.specs.Lines.{NeverFell};
 ghost use Rattle.cd_frames.specs.Message.{message_of};
-ghost use Rattle.cd_journal.specs.Journal.{length_of};
-ghost use Rattle.cd_rules.specs.Processes.{latest};
-ghost use Rattle.cd_rules.specs.Legal.{is_legal};
 ghost use Rattle.cd_rules.specs.Promises.{HavePriorities};
 ghost use Rattle.cd_protocol.specs.Node.{Node};
 ghost use Rattle.cd_effects.specs.Joint.{JointAt};
-ghost use Rattle.cd_effects.specs.Registry.{IsRegistry};
 ghost use Rattle.cd_effects.specs.Stands.{spot, IsFaultOfRecording};
 ghost use Rattle.cd_exchange.specs.Sessions.{IsAt};
 ghost use Rattle.cd_exchange.specs.Crash.{TroubleLeaves, FrameLeaves};
 ghost use Rattle.cd_exchange.specs.Handling.{the_case, WasHandled, HasFailed, GaveUp, GivingUpFailed};
+ghost use Rattle.cd_exchange.specs.Open.{IsOpen, StaysOpen, Advanced, HasCause, counted, fault_in};
 
 use crate::ending::Ending;
 use crate::{Rules, Session, on_end, on_frame, on_trouble};
@@ -42,51 +36,48 @@ fn give_up<T: Texts, R: Rules<T>, D: Disk, F: Files, L: Lines>(
     beat: &mut Beat,
 ) -> Result<(), Fault>
     requires priorities { HavePriorities T.read }
-    requires legal { is_legal T.read registry.old.entries ≡ true }
-    requires on_time { latest registry.old.entries ≤ now }
-    requires header { registry.old.journal.has_header ≡ true }
-    requires sound { registry.old.journal.sound ≡ true }
-    requires registry { D.observable → IsRegistry registry.old (D.state disk.old) }
-    requires order { D.observable → last_of (D.state disk.old).calls ≤ beat.old }
-    requires files_order { F.observable → files_last_of (F.state files.old).calls ≤ beat.old }
-    requires from { 1 ≤ sid.number }
-    requires to { sid.number ≤ L.last lines.old }
+    requires home { IsOpen D.observable F.observable T.read now registry.old
+        (D.state disk.old) (F.state files.old) sid.number (L.last lines.old) beat.old }
 
     // What is done.
-    ensures done { OnOk result (GaveUp F.observable L.observable (R.setting rules.now) T.read sid.number now (L.counts lines.old) (L.counts lines.new)
-        (spot registry.old.entries (F.state files.old).shelf phase.old owners.old (L.traffic lines.old))
-        (spot registry.new.entries (F.state files.new).shelf phase.new owners.new (L.traffic lines.new))) }
-    ensures failed { IfErr result (λ fault. GivingUpFailed F.observable L.observable (R.setting rules.now) T.read sid.number now (L.counts lines.old) (L.counts lines.new) fault
-        (spot registry.old.entries (F.state files.old).shelf phase.old owners.old (L.traffic lines.old))
-        (spot registry.new.entries (F.state files.new).shelf phase.new owners.new (L.traffic lines.new))) }
+    ensures done { OnOk result (GaveUp F.observable L.observable (R.setting rules.now) T.read
+        sid.number now (L.counts lines.old) (L.counts lines.new)
+        (spot registry.old.entries (F.state files.old).shelf
+        phase.old owners.old (L.traffic lines.old))
+        (spot registry.new.entries (F.state files.new).shelf
+        phase.new owners.new (L.traffic lines.new))) }
+    ensures failed { IfErr result (λ fault. GivingUpFailed F.observable L.observable
+        (R.setting rules.now) T.read sid.number now (L.counts lines.old) (L.counts lines.new) fault
+        (spot registry.old.entries (F.state files.old).shelf
+        phase.old owners.old (L.traffic lines.old))
+        (spot registry.new.entries (F.state files.new).shelf
+        phase.new owners.new (L.traffic lines.new))) }
 
     // What a crash leaves at each moment.
-    ensures crash { D.observable → F.observable → TroubleLeaves F.observable L.observable (R.setting rules.now) T.read sid.number now
-        (spot registry.old.entries (F.state files.old).shelf phase.old owners.old (L.traffic lines.old))
-        (JointAt (D.state disk.old) (F.state files.old)) (JointAt (D.state disk.new) (F.state files.new)) beat.old }
+    ensures crash { D.observable → F.observable
+        → TroubleLeaves F.observable L.observable (R.setting rules.now) T.read sid.number now
+        (spot registry.old.entries (F.state files.old).shelf
+        phase.old owners.old (L.traffic lines.old))
+        (JointAt (D.state disk.old) (F.state files.old))
+        (JointAt (D.state disk.new) (F.state files.new)) beat.old }
 
     // What stands then.
-    ensures legal { is_legal T.read registry.new.entries ≡ true }
-    ensures on_time { latest registry.new.entries ≤ now }
-    ensures registry { D.observable → result ≢ Err Fault.Disk → IsRegistry registry.new (D.state disk.new) }
-    ensures header { registry.new.journal.has_header ≡ true }
-    ensures sound { result ≢ Err Fault.Disk → registry.new.journal.sound ≡ true }
-    ensures full { (len : ℕ) → result ≡ Err (Fault.JournalFull len) → length_of registry.new.journal ≡ len }
+    ensures home { StaysOpen D.observable F.observable T.read now (fault_in result) registry.new
+        (D.state disk.new) (F.state files.new) beat.new }
 
     // Why it fails.
     ensures fault { IfErr result IsFaultOfRecording }
-    ensures disk { result ≡ Err Fault.Disk → Rose (D.faults disk.old) (D.faults disk.new) }
-    ensures files { result ≡ Err Fault.Files → Rose (F.faults files.old) (F.faults files.new) }
-    ensures line { result ≡ Err Fault.Line → Rose ((L.counts lines.old).faults sid.number) ((L.counts lines.new).faults sid.number) }
+    ensures cause { HasCause (fault_in result) sid.number
+        (counted (D.faults disk.old) (F.faults files.old)
+        (L.counts lines.old) (L.last lines.old) beat.old)
+        (counted (D.faults disk.new) (F.faults files.new)
+        (L.counts lines.new) (L.last lines.new) beat.new) }
 
-    ensures order { D.observable → last_of (D.state disk.new).calls ≤ beat.new }
-    ensures files_order { F.observable → files_last_of (F.state files.new).calls ≤ beat.new }
-    ensures beat { beat.old ≤ beat.new }
-    ensures last { L.last lines.new ≡ L.last lines.old }
-    ensures disk_later { D.faults disk.old ≤ D.faults disk.new }
-    ensures files_later { F.faults files.old ≤ F.faults files.new }
-    ensures lines_later { NeverFell (L.counts lines.old) (L.counts lines.new) }
-    ensures nones { (L.counts lines.new).nones ≡ (L.counts lines.old).nones }
+    ensures advanced { Advanced
+        (counted (D.faults disk.old) (F.faults files.old)
+        (L.counts lines.old) (L.last lines.old) beat.old)
+        (counted (D.faults disk.new) (F.faults files.new)
+        (L.counts lines.new) (L.last lines.new) beat.new) }
 {
     match on_trouble(
         alloc, rules, registry, phase, owners, sid, now, disk, files, lines, beat,
@@ -123,54 +114,58 @@ pub fn take_frame<T: Texts, R: Rules<T>, D: Disk, F: Files, L: Lines>(
     beat: &mut Beat,
 ) -> Result<Ending, Fault>
     requires priorities { HavePriorities T.read }
-    requires legal { is_legal T.read registry.old.entries ≡ true }
-    requires on_time { latest registry.old.entries ≤ now }
-    requires header { registry.old.journal.has_header ≡ true }
-    requires sound { registry.old.journal.sound ≡ true }
-    requires registry { D.observable → IsRegistry registry.old (D.state disk.old) }
-    requires order { D.observable → last_of (D.state disk.old).calls ≤ beat.old }
-    requires files_order { F.observable → files_last_of (F.state files.old).calls ≤ beat.old }
-    requires from { 1 ≤ sid.number }
-    requires to { sid.number ≤ L.last lines.old }
+    requires home { IsOpen D.observable F.observable T.read now registry.old
+        (D.state disk.old) (F.state files.old) sid.number (L.last lines.old) beat.old }
 
     // What is done.
-    ensures handled { IfOk result (λ ending. WasHandled (the_case F.observable L.observable (R.setting rules.now) T.read sid.number now others.now (message_of frame.now)) (L.counts lines.old) (L.counts lines.new) ending
-        (spot registry.old.entries (F.state files.old).shelf phase.old owners.old (L.traffic lines.old))
-        (spot registry.new.entries (F.state files.new).shelf phase.new owners.new (L.traffic lines.new))) }
-    ensures failed { IfErr result (λ fault. HasFailed (the_case F.observable L.observable (R.setting rules.now) T.read sid.number now others.now (message_of frame.now)) (L.counts lines.old) (L.counts lines.new) fault
-        (spot registry.old.entries (F.state files.old).shelf phase.old owners.old (L.traffic lines.old))
-        (spot registry.new.entries (F.state files.new).shelf phase.new owners.new (L.traffic lines.new))) }
+    ensures handled { IfOk result (λ ending. WasHandled
+        (the_case F.observable L.observable (R.setting rules.now) T.read sid.number now others.now
+        (message_of frame.now)) (L.counts lines.old) (L.counts lines.new) ending
+        (spot registry.old.entries (F.state files.old).shelf
+        phase.old owners.old (L.traffic lines.old))
+        (spot registry.new.entries (F.state files.new).shelf
+        phase.new owners.new (L.traffic lines.new))) }
+    ensures failed { IfErr result (λ fault. HasFailed
+        (the_case F.observable L.observable (R.setting rules.now) T.read sid.number now others.now
+        (message_of frame.now)) (L.counts lines.old) (L.counts lines.new) fault
+        (spot registry.old.entries (F.state files.old).shelf
+        phase.old owners.old (L.traffic lines.old))
+        (spot registry.new.entries (F.state files.new).shelf
+        phase.new owners.new (L.traffic lines.new))) }
 
     // What a crash leaves at each moment.
-    ensures crash { D.observable → F.observable → (node : Node) → IsAt F.observable (R.setting rules.now) T.read sid.number others.now node (spot registry.old.entries (F.state files.old).shelf phase.old owners.old (L.traffic lines.old))
-        → FrameLeaves (the_case F.observable L.observable (R.setting rules.now) T.read sid.number now others.now (message_of frame.now))
-        (spot registry.old.entries (F.state files.old).shelf phase.old owners.old (L.traffic lines.old)) node
-        (JointAt (D.state disk.old) (F.state files.old)) (JointAt (D.state disk.new) (F.state files.new)) beat.old }
+    ensures crash { D.observable → F.observable → (node : Node)
+        → IsAt F.observable (R.setting rules.now) T.read sid.number others.now node
+        (spot registry.old.entries (F.state files.old).shelf
+        phase.old owners.old (L.traffic lines.old))
+        → FrameLeaves (the_case F.observable L.observable (R.setting rules.now) T.read sid.number
+        now others.now (message_of frame.now))
+        (spot registry.old.entries (F.state files.old).shelf
+        phase.old owners.old (L.traffic lines.old))
+        node (JointAt (D.state disk.old) (F.state files.old))
+        (JointAt (D.state disk.new) (F.state files.new)) beat.old }
 
     // What stands then.
-    ensures legal { is_legal T.read registry.new.entries ≡ true }
-    ensures on_time { latest registry.new.entries ≤ now }
-    ensures registry { D.observable → result ≢ Err Fault.Disk → IsRegistry registry.new (D.state disk.new) }
-    ensures header { registry.new.journal.has_header ≡ true }
-    ensures sound { result ≢ Err Fault.Disk → registry.new.journal.sound ≡ true }
-    ensures full { (len : ℕ) → result ≡ Err (Fault.JournalFull len) → length_of registry.new.journal ≡ len }
+    ensures home { StaysOpen D.observable F.observable T.read now (fault_in result) registry.new
+        (D.state disk.new) (F.state files.new) beat.new }
 
     // Why it ends so.
     ensures fault { IfErr result IsFaultOfRecording }
-    ensures disk { result ≡ Err Fault.Disk → Rose (D.faults disk.old) (D.faults disk.new) }
-    ensures files { result ≡ Err Fault.Files → Rose (F.faults files.old) (F.faults files.new) }
-    ensures line { result ≡ Err Fault.Line → Rose ((L.counts lines.old).faults sid.number) ((L.counts lines.new).faults sid.number) }
-    ensures troubled { result ≡ Ok Ending.Troubled → Rose (F.faults files.old) (F.faults files.new) }
-    ensures lost { result ≡ Ok Ending.Lost → Rose ((L.counts lines.old).faults sid.number) ((L.counts lines.new).faults sid.number) }
+    ensures cause { HasCause (fault_in result) sid.number
+        (counted (D.faults disk.old) (F.faults files.old)
+        (L.counts lines.old) (L.last lines.old) beat.old)
+        (counted (D.faults disk.new) (F.faults files.new)
+        (L.counts lines.new) (L.last lines.new) beat.new) }
+    ensures troubled { result ≡ Ok Ending.Troubled
+        → Rose (F.faults files.old) (F.faults files.new) }
+    ensures lost { result ≡ Ok Ending.Lost → Rose ((L.counts lines.old).faults sid.number)
+        ((L.counts lines.new).faults sid.number) }
 
-    ensures order { D.observable → last_of (D.state disk.new).calls ≤ beat.new }
-    ensures files_order { F.observable → files_last_of (F.state files.new).calls ≤ beat.new }
-    ensures beat { beat.old ≤ beat.new }
-    ensures last { L.last lines.new ≡ L.last lines.old }
-    ensures disk_later { D.faults disk.old ≤ D.faults disk.new }
-    ensures files_later { F.faults files.old ≤ F.faults files.new }
-    ensures lines_later { NeverFell (L.counts lines.old) (L.counts lines.new) }
-    ensures nones { (L.counts lines.new).nones ≡ (L.counts lines.old).nones }
+    ensures advanced { Advanced
+        (counted (D.faults disk.old) (F.faults files.old)
+        (L.counts lines.old) (L.last lines.old) beat.old)
+        (counted (D.faults disk.new) (F.faults files.new)
+        (L.counts lines.new) (L.last lines.new) beat.new) }
 {
     match on_frame(
         alloc, rules, registry, others, phase, owners, sid, now, disk, files, lines, frame, buffer,

@@ -11,6 +11,7 @@ use Rattle.cd_exchange.proofs.Coming.{ended_so, later_rose}
 use Rattle.cd_exchange.specs.Handling.{the_case}
 use Rattle.cd_exchange.proofs.Crashing.{so_heard, at_heard}
 use Rattle.cd_exchange.proofs.Taken.{ended_taken, end_stopped_taken, handled_since, failed_since}
+use Rattle.cd_exchange.proofs.OpenLaw.{lines_advanced, open_still, advanced_then, cause_since}
 use Rattle.cd_exchange.proofs.turn.take_turn.Goals as goal
 
 pub returns-in-Ok-clause-handled : goal.returns-in-Ok-clause-handled
@@ -81,7 +82,7 @@ returns-in-Ok-on_end-clause-handled g c = inr (
       next = λ told given run. subst (λ (came : Option Message). Run ((g.L.Lines.traffic c.next_frame-came.new.lines).taken c.args.sid.number) (and_one given came) c.next_frame-came.new.reader) (sym c.in-None.ensures) (c.next_frame-came.ensures.run told given run);
     };
     why = ended_so c.next_frame-came.result c.next_frame-came.new.reader c.args.sid.number (g.L.Lines.counts c.args.lines.now) (g.L.Lines.counts c.next_frame-came.new.lines) (g.L.Lines.counts c.on_end-in-None.new.lines)
-        c.next_frame-came.ensures.why (sym c.in-None.ensures) c.in-Ok-on_end.ensures.lines_later;
+        c.next_frame-came.ensures.why (sym c.in-None.ensures) c.in-Ok-on_end.ensures.advanced.lines_later;
     ended = c.in-Ok-on_end.ensures.done;
   }),
 )
@@ -97,7 +98,7 @@ returns-in-Err-on_end-clause-failed g c = inr (inl (record {
     next = λ told given run. subst (λ (came : Option Message). Run ((g.L.Lines.traffic c.next_frame-came.new.lines).taken c.args.sid.number) (and_one given came) c.next_frame-came.new.reader) (sym c.in-None.ensures) (c.next_frame-came.ensures.run told given run);
   };
   cause = ended_so c.next_frame-came.result c.next_frame-came.new.reader c.args.sid.number (g.L.Lines.counts c.args.lines.now) (g.L.Lines.counts c.next_frame-came.new.lines) (g.L.Lines.counts c.on_end-in-None.new.lines)
-      c.next_frame-came.ensures.why (sym c.in-None.ensures) c.in-Err-on_end.ensures.lines_later;
+      c.next_frame-came.ensures.why (sym c.in-None.ensures) c.in-Err-on_end.ensures.advanced.lines_later;
   failed = c.in-Err-on_end.ensures.stopped;
 }))
 
@@ -111,7 +112,7 @@ returns-in-Ok-take_frame-clause-lost g c = λ is. inr (inr (later_rose ((g.L.Lin
 
 pub returns-in-Ok-on_end-clause-lost : goal.returns-in-Ok-on_end-clause-lost
 returns-in-Ok-on_end-clause-lost g c = λ is. inr (inl (ended_so c.next_frame-came.result c.next_frame-came.new.reader c.args.sid.number (g.L.Lines.counts c.args.lines.now) (g.L.Lines.counts c.next_frame-came.new.lines) (g.L.Lines.counts c.on_end-in-None.new.lines)
-    c.next_frame-came.ensures.why (sym c.in-None.ensures) c.in-Ok-on_end.ensures.lines_later))
+    c.next_frame-came.ensures.why (sym c.in-None.ensures) c.in-Ok-on_end.ensures.advanced.lines_later))
 
 pub returns-in-Ok-clause-unheard : goal.returns-in-Ok-clause-unheard
 returns-in-Ok-clause-unheard g c = λ told over. ended_taken g.F.Files.observable g.L.Lines.observable (g.R.Rules.setting c.args.rules.now) g.T.Texts.read c.args.sid.number c.args.now row_end
@@ -192,3 +193,63 @@ returns-in-Err-take_frame-clause-crash g c = λ told files_told node is. inl (re
       (spot c.args.registry.now.entries (g.F.Files.state c.args.files.now).shelf c.args.phase.now c.args.owners.now (g.L.Lines.traffic c.args.lines.now))
       (g.L.Lines.traffic c.next_frame-came.new.lines) is);
 })
+
+pub take_frame-requires-clause-home : goal.take_frame-requires-clause-home
+take_frame-requires-clause-home g c = open_still c.requires.home c.next_frame-came.ensures.last
+
+pub on_end-requires-in-None-clause-home : goal.on_end-requires-in-None-clause-home
+on_end-requires-in-None-clause-home g c = open_still c.requires.home c.next_frame-came.ensures.last
+
+pub returns-in-Ok-clause-home : goal.returns-in-Ok-clause-home
+returns-in-Ok-clause-home g c = c.in-Ok.ensures.home
+
+pub returns-in-Ok-clause-cause : goal.returns-in-Ok-clause-cause
+returns-in-Ok-clause-cause g c = c.in-Ok.ensures.cause
+
+pub returns-in-Ok-clause-advanced : goal.returns-in-Ok-clause-advanced
+returns-in-Ok-clause-advanced g c = c.on_end.ensures.advanced
+
+pub returns-in-Ok-on_end-clause-home : goal.returns-in-Ok-on_end-clause-home
+returns-in-Ok-on_end-clause-home g c = c.in-Ok-on_end.ensures.home
+
+pub returns-in-Ok-on_end-clause-cause : goal.returns-in-Ok-on_end-clause-cause
+returns-in-Ok-on_end-clause-cause g c = cause_since (lines_advanced (g.D.Disk.faults c.args.disk.now) (g.F.Files.faults c.args.files.now) (g.L.Lines.counts c.args.lines.now) (g.L.Lines.counts c.next_frame-came.new.lines) (g.L.Lines.last c.args.lines.now) (g.L.Lines.last c.next_frame-came.new.lines) c.args.beat.now c.next_frame-came.ensures.last c.next_frame-came.ensures.later c.next_frame-came.ensures.nones) c.in-Ok-on_end.ensures.cause
+
+pub returns-in-Ok-on_end-clause-advanced : goal.returns-in-Ok-on_end-clause-advanced
+returns-in-Ok-on_end-clause-advanced g c = advanced_then (lines_advanced (g.D.Disk.faults c.args.disk.now) (g.F.Files.faults c.args.files.now) (g.L.Lines.counts c.args.lines.now) (g.L.Lines.counts c.next_frame-came.new.lines) (g.L.Lines.last c.args.lines.now) (g.L.Lines.last c.next_frame-came.new.lines) c.args.beat.now c.next_frame-came.ensures.last c.next_frame-came.ensures.later c.next_frame-came.ensures.nones) c.on_end-in-None.ensures.advanced
+
+pub returns-in-Ok-take_frame-clause-home : goal.returns-in-Ok-take_frame-clause-home
+returns-in-Ok-take_frame-clause-home g c = c.in-Ok-take_frame.ensures.home
+
+pub returns-in-Ok-take_frame-clause-cause : goal.returns-in-Ok-take_frame-clause-cause
+returns-in-Ok-take_frame-clause-cause g c = cause_since (lines_advanced (g.D.Disk.faults c.args.disk.now) (g.F.Files.faults c.args.files.now) (g.L.Lines.counts c.args.lines.now) (g.L.Lines.counts c.next_frame-came.new.lines) (g.L.Lines.last c.args.lines.now) (g.L.Lines.last c.next_frame-came.new.lines) c.args.beat.now c.next_frame-came.ensures.last c.next_frame-came.ensures.later c.next_frame-came.ensures.nones) c.in-Ok-take_frame.ensures.cause
+
+pub returns-in-Ok-take_frame-clause-advanced : goal.returns-in-Ok-take_frame-clause-advanced
+returns-in-Ok-take_frame-clause-advanced g c = advanced_then (lines_advanced (g.D.Disk.faults c.args.disk.now) (g.F.Files.faults c.args.files.now) (g.L.Lines.counts c.args.lines.now) (g.L.Lines.counts c.next_frame-came.new.lines) (g.L.Lines.last c.args.lines.now) (g.L.Lines.last c.next_frame-came.new.lines) c.args.beat.now c.next_frame-came.ensures.last c.next_frame-came.ensures.later c.next_frame-came.ensures.nones) c.take_frame.ensures.advanced
+
+pub returns-in-Err-clause-home : goal.returns-in-Err-clause-home
+returns-in-Err-clause-home g c = c.in-Err.ensures.home
+
+pub returns-in-Err-clause-cause : goal.returns-in-Err-clause-cause
+returns-in-Err-clause-cause g c = c.in-Err.ensures.cause
+
+pub returns-in-Err-clause-advanced : goal.returns-in-Err-clause-advanced
+returns-in-Err-clause-advanced g c = c.on_end.ensures.advanced
+
+pub returns-in-Err-on_end-clause-home : goal.returns-in-Err-on_end-clause-home
+returns-in-Err-on_end-clause-home g c = c.in-Err-on_end.ensures.home
+
+pub returns-in-Err-on_end-clause-cause : goal.returns-in-Err-on_end-clause-cause
+returns-in-Err-on_end-clause-cause g c = cause_since (lines_advanced (g.D.Disk.faults c.args.disk.now) (g.F.Files.faults c.args.files.now) (g.L.Lines.counts c.args.lines.now) (g.L.Lines.counts c.next_frame-came.new.lines) (g.L.Lines.last c.args.lines.now) (g.L.Lines.last c.next_frame-came.new.lines) c.args.beat.now c.next_frame-came.ensures.last c.next_frame-came.ensures.later c.next_frame-came.ensures.nones) c.in-Err-on_end.ensures.cause
+
+pub returns-in-Err-on_end-clause-advanced : goal.returns-in-Err-on_end-clause-advanced
+returns-in-Err-on_end-clause-advanced g c = advanced_then (lines_advanced (g.D.Disk.faults c.args.disk.now) (g.F.Files.faults c.args.files.now) (g.L.Lines.counts c.args.lines.now) (g.L.Lines.counts c.next_frame-came.new.lines) (g.L.Lines.last c.args.lines.now) (g.L.Lines.last c.next_frame-came.new.lines) c.args.beat.now c.next_frame-came.ensures.last c.next_frame-came.ensures.later c.next_frame-came.ensures.nones) c.on_end-in-None.ensures.advanced
+
+pub returns-in-Err-take_frame-clause-home : goal.returns-in-Err-take_frame-clause-home
+returns-in-Err-take_frame-clause-home g c = c.in-Err-take_frame.ensures.home
+
+pub returns-in-Err-take_frame-clause-cause : goal.returns-in-Err-take_frame-clause-cause
+returns-in-Err-take_frame-clause-cause g c = cause_since (lines_advanced (g.D.Disk.faults c.args.disk.now) (g.F.Files.faults c.args.files.now) (g.L.Lines.counts c.args.lines.now) (g.L.Lines.counts c.next_frame-came.new.lines) (g.L.Lines.last c.args.lines.now) (g.L.Lines.last c.next_frame-came.new.lines) c.args.beat.now c.next_frame-came.ensures.last c.next_frame-came.ensures.later c.next_frame-came.ensures.nones) c.in-Err-take_frame.ensures.cause
+
+pub returns-in-Err-take_frame-clause-advanced : goal.returns-in-Err-take_frame-clause-advanced
+returns-in-Err-take_frame-clause-advanced g c = advanced_then (lines_advanced (g.D.Disk.faults c.args.disk.now) (g.F.Files.faults c.args.files.now) (g.L.Lines.counts c.args.lines.now) (g.L.Lines.counts c.next_frame-came.new.lines) (g.L.Lines.last c.args.lines.now) (g.L.Lines.last c.next_frame-came.new.lines) c.args.beat.now c.next_frame-came.ensures.last c.next_frame-came.ensures.later c.next_frame-came.ensures.nones) c.take_frame.ensures.advanced
