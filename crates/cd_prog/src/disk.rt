@@ -59,6 +59,12 @@ impl FileDisk {
         }
     }
 
+    // How often a call failed.
+    #[cfg(test)]
+    pub fn faults(&self) -> u64 {
+        self.faults
+    }
+
     // Counts an error, and tells it.
     fn failed(&mut self, why: io::Error) -> Failed
         ensures rose { Rose self.old.faults self.new.faults }

@@ -33,6 +33,12 @@ impl SystemFiles {
         }
     }
 
+    // How often a call failed.
+    #[cfg(test)]
+    pub fn faults(&self) -> u64 {
+        self.faults
+    }
+
     // Counts an error, and tells it.
     fn failed(&mut self, name: &[u8], why: io::Error) -> Failed
         ensures rose { Rose self.old.faults self.new.faults }
@@ -164,13 +170,7 @@ fn fill(file: &File, at: u64, into: &mut [u8]) -> io::Result<usize>
 }
 
 // Writes from a place on. Where no byte follows, a shorter file is made longer up to the place.
-fn write(
-    rt: &HostRuntime,
-    hand: &mut Hand,
-    name: &[u8],
-    at: u64,
-    bytes: &[u8],
-) -> io::Result<()> {
+fn write(rt: &HostRuntime, hand: &mut Hand, name: &[u8], at: u64, bytes: &[u8]) -> io::Result<()> {
     let name = text(name)?;
     let found = destination(rt, name)?;
     spare_home(rt, name, found.as_ref())?;

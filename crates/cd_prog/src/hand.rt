@@ -1,4 +1,6 @@
 //! The files that are being written.
+ghost use Rattle.std.specs.Prelude.{◌<◌, length, IfSome};
+
 use crate::names::{Identity, look_at, sync_folder};
 use std::fs::{File, Metadata, OpenFile, OpenOptions};
 use std::io;
@@ -81,11 +83,7 @@ impl Hand {
         name: &str,
         found: Option<&Metadata>,
     ) -> io::Result<&mut Held> {
-        let place = match found {
-            Some(found) => position(&self.held, Identity::of(found)),
-            None => None,
-        };
-        if let Some(i) = place {
+        if let Some(i) = position(&self.held, found) {
             return Ok(&mut self.held[i]);
         }
         self.held.retain(|held| !held.is_synced);
@@ -99,16 +97,19 @@ impl Hand {
 
     /// Lets a file go that was removed.
     pub fn leave(&mut self, removed: &Metadata) {
-        if let Some(i) = position(&self.held, Identity::of(removed)) {
+        if let Some(i) = position(&self.held, Some(removed)) {
             let _ = self.held.swap_remove(i);
         }
     }
 }
 
-// Where a file stands.
-fn position(held: &[Held], identity: Identity) -> Option<usize> {
-    for (i, file) in held.iter().enumerate() {
-        if file.identity == identity {
+// Where the file stands that was found.
+fn position(held: &[Held], found: Option<&Metadata>) -> Option<usize>
+    ensures { IfSome result (λ i. i < length held.now) }
+{
+    let identity = Identity::of(found?);
+    for i in 0..held.len() {
+        if held[i].identity == identity {
             return Some(i);
         }
     }

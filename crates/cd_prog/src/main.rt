@@ -3,12 +3,16 @@
 
 mod clock;
 mod disk;
+#[cfg(test)]
+mod exits;
 mod files;
 mod guard;
 mod hand;
 mod names;
 mod report;
 mod streams;
+#[cfg(test)]
+mod tests;
 
 use crate::clock::SystemClock;
 use crate::disk::FileDisk;

@@ -25,6 +25,12 @@ impl<R: Read + Drop> StandardInput<R> {
             faults: 0,
         }
     }
+
+    // How often a call failed.
+    #[cfg(test)]
+    pub fn faults(&self) -> u64 {
+        self.faults
+    }
 }
 
 // Reads once, and again where a signal came first.
@@ -75,6 +81,12 @@ impl<W: Write + Drop> StandardOutput<W> {
             writer,
             faults: 0,
         }
+    }
+
+    // How often a call failed.
+    #[cfg(test)]
+    pub fn faults(&self) -> u64 {
+        self.faults
     }
 }
 
