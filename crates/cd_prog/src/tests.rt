@@ -52,7 +52,7 @@ fn journal_goes_well_and_fails(rt: HostRuntime) -> Result<(), Fail> {
 #[test]
 fn opening_keeps_each_byte(rt: HostRuntime) -> Result<(), Fail> {
     enter(&rt, "opening_keeps")?;
-    for length in [0, 1, 4096, 262_150, 300_000] {
+    for length in [0_u32, 1, 4096, 262_150, 300_000] {
         let mut bytes = Vec::new(rt.alloc());
         for i in 0..length {
             bytes.push((i % 251) as u8)?;
