@@ -9,10 +9,10 @@ import sys
 import tempfile
 
 sys.path.insert(0, os.path.join(os.path.dirname(os.path.abspath(__file__)), "..", "syscalls"))
-import trace
+import recorder
 
 REASON = b"Input/output error (os error 5)\n"
-TWO = trace.SUBMIT * 2
+TWO = recorder.SUBMIT * 2
 
 
 def wanted(deed):
@@ -65,10 +65,10 @@ def next_opening(program, home, out):
     path = os.path.join(home, "journal")
     had_home = b"HOME ALPHA 17\n" in out or acknowledged(out)
     first, end = last_gate(home) if os.path.exists(path) and os.path.getsize(path) else (0, 0)
-    calls, said, _, status = trace.run(program, home, trace.SUBMIT)
+    calls, said, _, status = recorder.run(program, home, recorder.SUBMIT)
     if status == 2 and said == b"REFUSED NOTHOME\n" and not had_home:
-        calls, said, _, status = trace.run(program, home, trace.INIT + trace.SUBMIT)
-    elif end and not settles(trace.deeds(calls, home), first, end):
+        calls, said, _, status = recorder.run(program, home, recorder.INIT + recorder.SUBMIT)
+    elif end and not settles(recorder.deeds(calls, home), first, end):
         return "the next opening answers before the last entry and the folder are on the disk"
     number = acknowledged(said)
     if status != 0 or not acknowledged(out) <= number - 1 <= acknowledged(out) + 1:
@@ -82,7 +82,7 @@ def fail(program, deed, error, prepared, data):
         home = os.path.join(folder, "home")
         shutil.copytree(prepared, home)
         inject = [f"{deed.call.name}:error={error}:when={deed.call.nth}"]
-        _, out, errors, status = trace.run(program, home, data, inject)
+        _, out, errors, status = recorder.run(program, home, data, inject)
         if error == "EINTR":
             wants, last, line = 0, None, b""
         else:
@@ -101,8 +101,8 @@ def each_call(program, prepared, data):
     with tempfile.TemporaryDirectory(prefix="cdnode-faults-") as folder:
         home = os.path.join(folder, "home")
         shutil.copytree(prepared, home)
-        calls, _, _, _ = trace.run(program, home, data)
-        deeds = trace.deeds(calls, home)
+        calls, _, _, _ = recorder.run(program, home, data)
+        deeds = recorder.deeds(calls, home)
     tried = wrong = 0
     for deed in [it for it in deeds if not it.error]:
         for error in ("EIO", "EINTR"):
@@ -110,7 +110,7 @@ def each_call(program, prepared, data):
             tried += 1
             if why:
                 wrong += 1
-                print(f"{error} at {trace.shown(deed)[:60]}: {why}")
+                print(f"{error} at {recorder.shown(deed)[:60]}: {why}")
     return tried, wrong
 
 
@@ -140,7 +140,7 @@ def around(program, prepared):
             if status == 7:
                 fcntl.flock(held, fcntl.LOCK_SH)
             before = held.read()
-            got = plain(program, home, command, trace.SUBMIT)
+            got = plain(program, home, command, recorder.SUBMIT)
             fcntl.flock(held, fcntl.LOCK_UN)
             held.seek(0)
             after = held.read()
@@ -152,14 +152,14 @@ def around(program, prepared):
 
 
 def main():
-    program = trace.program(sys.argv[1:])
+    program = recorder.program(sys.argv[1:])
     tried = wrong = 0
     with tempfile.TemporaryDirectory(prefix="cdnode-faults-") as folder:
         new, old = os.path.join(folder, "new"), os.path.join(folder, "old")
         os.mkdir(new)
         os.mkdir(old)
-        subprocess.run([program], input=trace.INIT, stdout=subprocess.DEVNULL, cwd=old, check=True)
-        for prepared, data in ((new, trace.INIT + TWO), (old, TWO)):
+        subprocess.run([program], input=recorder.INIT, stdout=subprocess.DEVNULL, cwd=old, check=True)
+        for prepared, data in ((new, recorder.INIT + TWO), (old, TWO)):
             more, bad = each_call(program, prepared, data)
             tried, wrong = tried + more, wrong + bad
         rows, bad = around(program, old)

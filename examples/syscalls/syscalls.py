@@ -6,7 +6,7 @@ import sys
 import tempfile
 import time
 
-import trace
+import recorder
 
 HERE = os.path.dirname(os.path.abspath(__file__))
 
@@ -22,13 +22,13 @@ def hidden(since):
 
 def main():
     words = [it for it in sys.argv[1:] if it != "--write"]
-    program = trace.program(words)
+    program = recorder.program(words)
     compared = wrong = 0
     with tempfile.TemporaryDirectory(prefix="cdnode-syscalls-") as home:
-        for name, data in (("init", trace.INIT), ("submission", trace.SUBMIT), ("opening", b""), ("refused", b"foo;\n")):
+        for name, data in (("init", recorder.INIT), ("submission", recorder.SUBMIT), ("opening", b""), ("refused", b"foo;\n")):
             since = int(time.time())
-            calls, _, _, _ = trace.run(program, home, data)
-            lines = [trace.shown(it, hidden(since)) for it in trace.deeds(calls, home)]
+            calls, _, _, _ = recorder.run(program, home, data)
+            lines = [recorder.shown(it, hidden(since)) for it in recorder.deeds(calls, home)]
             path = os.path.join(HERE, name + ".calls")
             if "--write" in sys.argv:
                 with open(path, "w") as out:

@@ -13,7 +13,7 @@ import sys
 import tempfile
 
 sys.path.insert(0, os.path.join(os.path.dirname(os.path.abspath(__file__)), "..", "syscalls"))
-import trace
+import recorder
 
 CLEAN, DIRTY, AGAIN, LOST = range(4)
 DRAWN = 6
@@ -155,7 +155,7 @@ def judge(program, played, image, home):
     if image is not None:
         with open(path, "wb") as file:
             file.write(image)
-    done = subprocess.run([program], input=trace.SUBMIT, stdout=subprocess.PIPE, stderr=subprocess.PIPE, cwd=home)
+    done = subprocess.run([program], input=recorder.SUBMIT, stdout=subprocess.PIPE, stderr=subprocess.PIPE, cwd=home)
     numbers = [int(it) for it in re.findall(rb"PROCESS (\d+) SUBMITTED\n", played.printed)]
     if b"HOME ALPHA 17\n" not in played.printed and done.returncode in (2, 6):
         return None
@@ -176,35 +176,35 @@ def recorded(program, runs):
     deeds = []
     with tempfile.TemporaryDirectory(prefix="cdnode-torn-") as home:
         for data, inject in runs:
-            calls, _, _, _ = trace.run(program, home, data, inject)
-            deeds += trace.deeds(calls, home)
+            calls, _, _, _ = recorder.run(program, home, data, inject)
+            deeds += recorder.deeds(calls, home)
     return deeds
 
 
 def syncs(program, data, at):
     """Which sync of a run on a home it is, counted from the end by `at`, by its number among all of that run."""
-    deeds = recorded(program, [(trace.INIT, ()), (data, ())])
+    deeds = recorded(program, [(recorder.INIT, ()), (data, ())])
     first = [i for i, it in enumerate(deeds) if it.what == "close" and it.file == "journal"][0]
     return [it.call.nth for it in deeds[first:] if it.what == "sync"][at]
 
 
 def syncs_of_making(program):
     """The number of the first sync of a journal that was just made, in the run of an init."""
-    deeds = recorded(program, [(trace.INIT, ())])
+    deeds = recorded(program, [(recorder.INIT, ())])
     made = [i for i, it in enumerate(deeds) if it.what.startswith(("make", "open or make"))][0]
     return [it.call.nth for it in deeds[made:] if it.what == "sync"][0]
 
 
 def main():
-    program = trace.program(sys.argv[1:])
+    program = recorder.program(sys.argv[1:])
     rng = random.Random(int(sys.argv[2]) if len(sys.argv) > 2 else 1)
-    one, two = trace.SUBMIT, trace.SUBMIT * 2
+    one, two = recorder.SUBMIT, recorder.SUBMIT * 2
     gate, block = syncs(program, one, -1), syncs(program, one, -2)
     stories = [
-        [(trace.INIT + two, ()), (two, ())],
-        [(trace.INIT, ["fsync:signal=KILL:when=%d" % syncs_of_making(program)]), (trace.INIT + one, ()), (one, ())],
-        [(trace.INIT + one, ()), (one, [f"fsync:error=EIO:when={gate}"]), (two, ())],
-        [(trace.INIT + one, ()), (one, [f"fsync:error=EIO:when={block}"]), (two, ())],
+        [(recorder.INIT + two, ()), (two, ())],
+        [(recorder.INIT, ["fsync:signal=KILL:when=%d" % syncs_of_making(program)]), (recorder.INIT + one, ()), (one, ())],
+        [(recorder.INIT + one, ()), (one, [f"fsync:error=EIO:when={gate}"]), (two, ())],
+        [(recorder.INIT + one, ()), (one, [f"fsync:error=EIO:when={block}"]), (two, ())],
     ]
     states = wrong = 0
     for number, runs in enumerate(stories, 1):
@@ -222,7 +222,7 @@ def main():
                 if why:
                     wrong += 1
                     if wrong <= 20:
-                        print(f"runs {number}, after {trace.shown(deed)[:60]}: {why}")
+                        print(f"runs {number}, after {recorder.shown(deed)[:60]}: {why}")
     print(f"states {states}, opened as the list before or after with each number that was printed {states - wrong}, wrong {wrong}")
     return 1 if wrong else 0
 

@@ -29,7 +29,6 @@ fn is_status(output: &Output, status: u8) -> bool {
         6 => b"status 6\n",
         7 => b"status 7\n",
         9 => b"status 9\n",
-        10 => b"status 10\n",
         _ => return false,
     };
     output.status.success() == (status == 0) && output.stderr.ends_with(told)
