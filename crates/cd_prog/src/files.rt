@@ -2,34 +2,49 @@ ghost use Rattle.std.specs.Prelude.{◌≡◌, ◌≤◌, length, IfOk, None};
 ghost use Rattle.cd_outside.specs.Counts.{Rose};
 ghost use Rattle.cd_outside.specs.Files.{files_at_first};
 
+use crate::guard::{destination, spare_home};
+use crate::hand::Hand;
+use crate::names::{find, sync_folder, unlink};
+use crate::report::{no_beat, report};
 use cd_outside::{Beat, Failed, Files};
-use std::fs::{File, OpenFile, OpenOptions};
+use std::fs::File;
 use std::io::ErrorKind;
 use std::os::unix::fs::FileExt;
-use std::path::Path;
 use std::{fs, io};
 
 /// The files of the system by their names: absolute ones as they are, others from the current folder. A folder's name is
-/// no file.
+/// no file. What is written is a regular file, and nothing of the home.
 ///
 /// They tell nothing of their content, and count each error of the system.
 #[derive(Drop)]
 pub struct SystemFiles {
     rt: HostRuntime,
+    hand: Hand,
     faults: u64,
 }
 
 impl SystemFiles {
     /// The files; nothing is opened yet.
     pub fn new(rt: HostRuntime) -> Self {
-        SystemFiles { rt, faults: 0 }
+        SystemFiles {
+            rt,
+            hand: Hand::new(rt),
+            faults: 0,
+        }
     }
 
-    // Counts an error.
-    fn failed(&mut self) -> Failed
+    // How often a call failed.
+    #[cfg(test)]
+    pub fn faults(&self) -> u64 {
+        self.faults
+    }
+
+    // Counts an error, and tells it.
+    fn failed(&mut self, name: &[u8], why: io::Error) -> Failed
         ensures rose { Rose self.old.faults self.new.faults }
         ensures later { self.old.faults ≤ self.new.faults }
     {
+        report(&self.rt, "files", name, why);
         self.faults = self.faults.saturating_add(1);
         Failed
     }
@@ -51,14 +66,14 @@ impl Files for SystemFiles {
     fn size(&mut self, name: &[u8]) -> Result<Option<u64>, Failed> {
         match size(&self.rt, name) {
             Ok(size) => Ok(size),
-            Err(_) => Err(self.failed()),
+            Err(e) => Err(self.failed(name, e)),
         }
     }
 
     fn read(&mut self, name: &[u8], at: u64, into: &mut [u8]) -> Result<usize, Failed> {
         match read(&self.rt, name, at, into) {
             Ok(count) => Ok(count),
-            Err(_) => Err(self.failed()),
+            Err(e) => Err(self.failed(name, e)),
         }
     }
 
@@ -69,31 +84,43 @@ impl Files for SystemFiles {
         bytes: &[u8],
         beat: &mut Beat,
     ) -> Result<(), Failed> {
-        if !beat.raise() || write(&self.rt, name, at, bytes).is_err() {
-            return Err(self.failed());
+        if !beat.raise() {
+            return Err(self.failed(name, no_beat()));
         }
-        Ok(())
+        match write(&self.rt, &mut self.hand, name, at, bytes) {
+            Ok(()) => Ok(()),
+            Err(e) => Err(self.failed(name, e)),
+        }
     }
 
     fn cut(&mut self, name: &[u8], len: u64, beat: &mut Beat) -> Result<(), Failed> {
-        if !beat.raise() || cut(&self.rt, name, len).is_err() {
-            return Err(self.failed());
+        if !beat.raise() {
+            return Err(self.failed(name, no_beat()));
         }
-        Ok(())
+        match cut(&self.rt, &mut self.hand, name, len) {
+            Ok(()) => Ok(()),
+            Err(e) => Err(self.failed(name, e)),
+        }
     }
 
     fn sync(&mut self, name: &[u8], beat: &mut Beat) -> Result<(), Failed> {
-        if !beat.raise() || sync(&self.rt, name).is_err() {
-            return Err(self.failed());
+        if !beat.raise() {
+            return Err(self.failed(name, no_beat()));
         }
-        Ok(())
+        match sync(&self.rt, &mut self.hand, name) {
+            Ok(()) => Ok(()),
+            Err(e) => Err(self.failed(name, e)),
+        }
     }
 
     fn remove(&mut self, name: &[u8], beat: &mut Beat) -> Result<(), Failed> {
-        if !beat.raise() || remove(&self.rt, name).is_err() {
-            return Err(self.failed());
+        if !beat.raise() {
+            return Err(self.failed(name, no_beat()));
         }
-        Ok(())
+        match remove(&self.rt, &mut self.hand, name) {
+            Ok(()) => Ok(()),
+            Err(e) => Err(self.failed(name, e)),
+        }
     }
 }
 
@@ -101,29 +128,28 @@ impl Files for SystemFiles {
 fn text(name: &[u8]) -> io::Result<&str> {
     match std::str::from_utf8(name) {
         Ok(text) => Ok(text),
-        Err(_) => Err(io::Error::from(ErrorKind::InvalidInput)),
+        Err(_) => Err(io::Error::new(ErrorKind::InvalidInput, "it is no text")),
     }
 }
 
-// The length of a file; `None` where there is no such file.
+// The length of a regular file; `None` where there is nothing, or a folder.
 fn size(rt: &HostRuntime, name: &[u8]) -> io::Result<Option<u64>> {
-    match fs::metadata(rt, text(name)?) {
-        Ok(found) if found.is_dir() => Ok(None),
-        Ok(found) => Ok(Some(found.len())),
-        Err(e) if e.kind() == ErrorKind::NotFound => Ok(None),
-        Err(e) => Err(e),
+    match find(rt, text(name)?)? {
+        Some(found) if found.is_file() => Ok(Some(found.len())),
+        Some(found) if found.is_dir() => Ok(None),
+        Some(_) => Err(io::Error::other("it is no regular file")),
+        None => Ok(None),
     }
 }
 
-// Reads a file from a place on; a missing one gives nothing.
+// Reads a file from a place on; a missing one gives nothing, and so does a place behind the end.
 fn read(rt: &HostRuntime, name: &[u8], at: u64, into: &mut [u8]) -> io::Result<usize>
     ensures { IfOk result (λ n. n ≤ length into.old) }
 {
-    if size(rt, name)?.is_none() {
-        return Ok(0);
+    match size(rt, name)? {
+        Some(size) if at < size => fill(&File::open(rt, text(name)?)?, at, into),
+        _ => Ok(0),
     }
-    let file = File::open(rt, text(name)?)?;
-    fill(&file, at, into)
 }
 
 // Reads until the buffer is full or the file ends.
@@ -132,102 +158,52 @@ fn fill(file: &File, at: u64, into: &mut [u8]) -> io::Result<usize>
 {
     let mut count = 0;
     for _ in 0..u64::MAX {
-        let Some(place) = at.checked_add(count as u64) else {
-            break;
-        };
+        let place = at.saturating_add(count as u64);
         match file.read_at(&mut into[count..], place) {
-            Ok(0) => break,
+            Ok(0) => return Ok(count),
             Ok(more) => count += more,
             Err(e) if e.kind() == ErrorKind::Interrupted => {}
             Err(e) => return Err(e),
         }
     }
-    Ok(count)
-}
-
-// Opens a file, or makes it.
-fn make(rt: &HostRuntime, name: &[u8]) -> io::Result<File> {
-    OpenOptions::new()
-        .read(true)
-        .write(true)
-        .create(true)
-        .open(rt, text(name)?)
+    Err(io::Error::from(ErrorKind::Interrupted))
 }
 
 // Writes from a place on. Where no byte follows, a shorter file is made longer up to the place.
-fn write(rt: &HostRuntime, name: &[u8], at: u64, bytes: &[u8]) -> io::Result<()> {
-    let file = make(rt, name)?;
-    if bytes.is_empty() && file.metadata()?.len() < at {
-        return file.set_len(at);
-    }
-    file.write_all_at(bytes, at)
+fn write(rt: &HostRuntime, hand: &mut Hand, name: &[u8], at: u64, bytes: &[u8]) -> io::Result<()> {
+    let name = text(name)?;
+    let found = destination(rt, name)?;
+    spare_home(rt, name, found.as_ref())?;
+    hand.take(rt, name, found.as_ref())?.write(at, bytes)
 }
 
 // Cuts to a length, or makes longer by zeros.
-fn cut(rt: &HostRuntime, name: &[u8], len: u64) -> io::Result<()> {
-    make(rt, name)?.set_len(len)
+fn cut(rt: &HostRuntime, hand: &mut Hand, name: &[u8], len: u64) -> io::Result<()> {
+    let name = text(name)?;
+    let found = destination(rt, name)?;
+    spare_home(rt, name, found.as_ref())?;
+    hand.take(rt, name, found.as_ref())?.cut(len)
 }
 
-// Puts a file on the disk, and its making or removal with the folder that has its name.
-fn sync(rt: &HostRuntime, name: &[u8]) -> io::Result<()> {
-    if size(rt, name)?.is_some() {
-        File::open(rt, text(name)?)?.sync_all()?;
-    }
-    match File::open(rt, folder(text(name)?)) {
-        Ok(folder) => folder.sync_all(),
-        Err(e) if e.kind() == ErrorKind::NotFound => Ok(()),
-        Err(e) => Err(e),
-    }
-}
-
-// The folder that has a name.
-fn folder(name: &str) -> &str {
-    match Path::new(name).parent() {
-        Some(parent) if !parent.as_str().is_empty() => parent.as_str(),
-        _ => ".",
+// Puts a file on the disk, and its name where that may lack. Of a missing one only that it is missing.
+fn sync(rt: &HostRuntime, hand: &mut Hand, name: &[u8]) -> io::Result<()> {
+    let name = text(name)?;
+    match destination(rt, name)? {
+        Some(found) => hand.take(rt, name, Some(&found))?.settle(rt, name),
+        None => sync_folder(rt, name),
     }
 }
 
 // Removes a file, where there is one.
-fn remove(rt: &HostRuntime, name: &[u8]) -> io::Result<()> {
+fn remove(rt: &HostRuntime, hand: &mut Hand, name: &[u8]) -> io::Result<()> {
     if size(rt, name)?.is_none() {
         return Ok(());
     }
-    fs::remove_file(rt, text(name)?)
-}
-
-#[cfg(test)]
-mod tests {
-    use super::*;
-    use std::test::Fail;
-
-    // Each call goes well once on a file, and fails once on a name below it, which can't be.
-    #[test]
-    fn each_call_goes_well_and_fails(rt: HostRuntime) -> Result<(), Fail> {
-        let mut beat = Beat::new();
-        let mut files = SystemFiles::new(rt);
-        let mut into = [7; 4];
-        let name = b"each_call".as_slice();
-        files.remove(name, &mut beat)?;
-        assert_eq!(rt; files.size(name)?, None);
-        assert_eq!(rt; files.read(name, 0, &mut into)?, 0);
-        files.write_at(name, 1, b"ab", &mut beat)?;
-        files.sync(name, &mut beat)?;
-        assert_eq!(rt; files.read(name, 0, &mut into)?, 3);
-        assert_eq!(rt; into.as_slice(), [0, b'a', b'b', 7].as_slice());
-        files.cut(name, 5, &mut beat)?;
-        assert_eq!(rt; files.size(name)?, Some(5));
-        let below = b"each_call/below".as_slice();
-        assert!(rt; files.size(below).is_err());
-        assert!(rt; files.read(below, 0, &mut into).is_err());
-        assert!(rt; files.write_at(below, 0, b"a", &mut beat).is_err());
-        assert!(rt; files.cut(below, 0, &mut beat).is_err());
-        assert!(rt; files.sync(below, &mut beat).is_err());
-        assert!(rt; files.remove(below, &mut beat).is_err());
-        assert_eq!(rt; files.faults, 6);
-        assert_eq!(rt; files.size(b".")?, None);
-        files.remove(name, &mut beat)?;
-        assert_eq!(rt; files.size(name)?, None);
-        Ok(())
-    }
+    let name = text(name)?;
+    let found = destination(rt, name)?;
+    spare_home(rt, name, found.as_ref())?;
+    let named = fs::symlink_metadata(rt, name)?;
+    unlink(rt, name)?;
+    hand.leave(&named);
+    Ok(())
 }
